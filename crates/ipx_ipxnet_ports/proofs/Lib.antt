@@ -1,2 +1,3 @@
+mod Asked
 pub mod Handing
 pub mod Steady

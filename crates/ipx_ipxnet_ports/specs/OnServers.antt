@@ -21,11 +21,13 @@ use Rattle.ipxnet_server.specs.PeerServers.{is_joined_place}
 use Rattle.ipxnet_server.specs.Pings.{is_asked, is_pinged}
 use Rattle.ipxnet_server.specs.declared.noted.Noted.{Noted}
 use Rattle.ipxnet_server.specs.declared.pings.PingTurn.{PingTurn}
+use Rattle.ipx_carrier.specs.declared.fault.DeviceFault.{DeviceFault}
 use Rattle.ipx_carrier.specs.declared.port_driver.PacketSent.{PacketSent}
 use Rattle.ipx_carrier.specs.declared.port_driver.PacketSent.TheVariants.{Unmapped, Transmitted}
 use Rattle.ipx_carrier.specs.Counting.{raised}
 use Rattle.ipx_carrier.specs.Turns.{Given, Ways}
-use Rattle.ipx_ipxnet_ports.specs.PlaceTraffic.{HandsOver, PlaceDatagram, PlaceTraffic, PlacesPass, place_datagram}
+use Rattle.ipx_ipxnet_ports.specs.declared.place_sockets.DatagramCame.{DatagramCame}
+use Rattle.ipx_ipxnet_ports.specs.PlaceTraffic.{HandsOver, PlaceDatagram, PlaceTraffic, PlacesPass, datagram_answered, place_datagram}
 
 -- each packet of the core is handed to the server of its port once, unless it is too long for clients. Where
 -- it is sent then depends on which clients are known
@@ -122,6 +124,21 @@ abbrev pub servers_view : List ServerView → ℕ → Option PlaceTraffic → �
 servers_view servers kept traffic failed =
     record { servers = servers; kept = kept; traffic = traffic; failed = failed }
 
+-- the size of the buffer that a datagram is received into: more than any that is sent on to clients
+abbrev pub datagram_buffer : ℕ
+datagram_buffer = 1536
+
+-- sockets were asked at a port, into a buffer of that size, and `asks` says what came of that. This datagram is
+-- what they answered, or none came. If none came, nothing else was done with them
+pub record AreAskedForDatagram {S : Type 0} (asks : ℕ → Result (Option DatagramCame) DeviceFault → List ℕ → S → S → Type 0) (port : ℕ) (before : S) (came : Option PlaceDatagram) (after : S) : Type 0 where
+  pub answer : Result (Option DatagramCame) DeviceFault
+  pub buffer : List ℕ
+  pub asked : S
+  pub asking : asks port answer buffer before asked
+  pub size : length buffer ≡ datagram_buffer
+  pub answered : came ≡ datagram_answered port buffer answer
+  pub nothing : came ≡ None → after ≡ asked
+
 -- bytes came from an address to the port of a server, and only these. They are answered and sent to clients
 -- and joined routers, as the server says, and the core gets them if they are for it. Nothing is sent to an
 -- address where no client is known then and no router is joined, except the answer to a registration. What came
@@ -142,7 +159,7 @@ pub record HearsAtServer (now most : ℕ) (d : PlaceDatagram) (came : List Place
   pub servers : new.servers ≡ slice_set old.servers d.port after
   pub counted : new.kept ≡ filtered_count up old.kept
 
--- the same for what the sockets return: a datagram; or that nothing came, or that they failed, which they
+-- the same for what the sockets answered: a datagram; or that nothing came, or that they failed, which they
 -- count
 abbrev pub ReceivesAtServer : ℕ → ℕ → Option PlaceDatagram → List ℕ → Option ℕ → ServersView → ServersView → Type 0
 ReceivesAtServer now most None room up old new = (up ≡ None) × (new.servers ≡ old.servers)

@@ -1,6 +1,7 @@
 -- What passes through the sockets of ipxnet servers: which bytes came to a port from which address, and which
 -- were sent to which. Defined by this project.
 use Rattle.std.specs.Prelude.{◌≡◌, ℕ, zero, suc, List, [], ◌∷◌, ◌++◌, Bool, not, Option, Some, None, Result, Ok, Err, IfSome, count_by, filter, map, take}
+use Rattle.ipx_carrier.specs.declared.fault.DeviceFault.{DeviceFault}
 use Rattle.ipx_carrier.specs.Counting.{raised}
 use Rattle.std.specs.declared.net.socket_addr.SocketAddrV4.{SocketAddrV4}
 use Rattle.ipx_ipxnet_ports.specs.declared.place_sockets.DatagramCame.{DatagramCame}
@@ -24,6 +25,11 @@ place_datagram port bytes place = record { port = port; place = place; bytes = b
 abbrev pub came_from_place : ℕ → List ℕ → Option DatagramCame → Option PlaceDatagram
 came_from_place port room None = None
 came_from_place port room (Some c) = Some (place_datagram port (take c.size room) c.from)
+
+-- the datagram that sockets answered at a port, if one came
+abbrev pub datagram_answered : ℕ → List ℕ → Result (Option DatagramCame) DeviceFault → Option PlaceDatagram
+datagram_answered port room (Ok came) = came_from_place port room came
+datagram_answered port room (Err _) = None
 
 -- one datagram or none, as a list
 abbrev pub place_datagrams : Option PlaceDatagram → List PlaceDatagram

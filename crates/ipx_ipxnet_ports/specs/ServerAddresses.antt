@@ -1,6 +1,6 @@
 -- Where the sockets of ipxnet servers are bound, where a datagram goes and which one comes, and whether its
 -- source address is accepted. Defined by this project: a datagram over IPv6 is never accepted.
-use Rattle.std.specs.Prelude.{◌≡◌, ℕ, ℤ, List, Bool, true, if◌then◌else◌, Option, Some, None, Result, Ok, Err, IfSome, map, nat_eq, slice_get, slice_set}
+use Rattle.std.specs.Prelude.{◌≡◌, ℕ, ℤ, List, Bool, true, false, if◌then◌else◌, Option, Some, None, Result, Ok, Err, IfSome, is_some, map, nat_eq, slice_get, slice_set}
 use Rattle.std.specs.Cmp.Lexicographic.{pointwise}
 use Rattle.std.specs.List.{list_any}
 use Rattle.std.specs.Option.{option_map}
@@ -11,11 +11,13 @@ use Rattle.std.specs.declared.net.socket_addr.SocketAddr.TheVariants.{V4, V6}
 use Rattle.std.specs.declared.net.socket_addr.SocketAddrV4.{SocketAddrV4}
 use Rattle.ipx_carrier.specs.declared.fault.DeviceFault.{DeviceFault}
 use Rattle.ipx_carrier.specs.declared.placed_socket.PlacedSocket.{PlacedSocket}
+use Rattle.ipx_carrier.specs.ReadySet.{IsFilteredOrAnswer, is_come, is_port_marked, marks_after}
 use Rattle.ipx_carrier.specs.Traces.{Got, TriesToReceive, raw_fd_of, refused_to, sent_to}
 use Rattle.ipx_ipxnet_ports.specs.declared.allow.Allow.{Allow}
 use Rattle.ipx_ipxnet_ports.specs.declared.allow.Allow.TheVariants as Allowed
 use Rattle.ipx_ipxnet_ports.specs.declared.place_sockets.DatagramCame.{DatagramCame}
 use Rattle.ipx_ipxnet_ports.specs.declared.sockets.ServerSocket.{ServerSocket}
+use Rattle.ipx_ipxnet_ports.specs.declared.sockets.ServerSockets.{ServerSockets}
 
 -- the IP addresses that are named; None means any
 abbrev pub listed_ips : Allow → Option (List (List ℕ))
@@ -76,6 +78,23 @@ abbrev pub last_refused : Got → Bool → Option (List ℕ) → Option (List �
 last_refused (Ok (Some came)) is_handed last = if is_handed then last else ipv4_of_place came.1
 last_refused (Ok None) is_handed last = last
 last_refused (Err _) is_handed last = last
+
+-- a marked port was asked, and gave this answer: its socket was. The mark is cleared exactly if nothing waits.
+-- What came from an address that is not accepted is counted, and its IP address is the last unknown one
+abbrev pub AsksMarkedPort : ℕ → Option DatagramCame → List ℕ → ServerSockets → ServerSockets → Type 0
+AsksMarkedPort port answer room old new = (got : Got)
+    × AsksForDatagram port got room answer old.sockets.items new.sockets.items old.faults new.faults
+    × (new.marks ≡ marks_after port got old.marks)
+    × (new.last_unknown ≡ last_refused got (is_some answer) old.last_unknown)
+    × IsFilteredOrAnswer (is_come got) (is_some answer) old.nowhere new.nowhere
+
+-- a port was asked, and gave this answer. Without a mark the system is not asked, the answer is None, and
+-- nothing changes. It never fails
+abbrev pub AsksServerSockets : ℕ → Result (Option DatagramCame) DeviceFault → List ℕ → ServerSockets → ServerSockets → Type 0
+AsksServerSockets port (Ok answer) room old new = (is_port_marked old.marks port ≡ false → (answer ≡ None) × (new ≡ old))
+    × (is_port_marked old.marks port ≡ true → AsksMarkedPort port answer room old new)
+    × (new.sent ≡ old.sent) × (new.failures ≡ old.failures)
+AsksServerSockets port (Err _) room old new = ⊥
 
 -- ---- definitions for the private functions
 

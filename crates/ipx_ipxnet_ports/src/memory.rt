@@ -115,6 +115,9 @@ impl PlaceSockets for MemoryPlaces {
     // Each datagram has an address.
     ghost filtered = { λ m. 0 };
 
+    // What they were asked is tested.
+    ghost asks = { λ port answer room m n. Unit {0} };
+
     fn ports(&self) -> usize {
         self.ports
     }

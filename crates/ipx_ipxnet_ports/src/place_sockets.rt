@@ -1,7 +1,9 @@
 //! The sockets of ipxnet servers.
 
-ghost use Rattle.std.specs.Prelude.{◌≡◌, ◌<◌, ◌≤◌, ℕ, Bool, [], ◌∷◌, Option, IfOk, IfSome, OnErr, OnOk, is_some, length, true};
+ghost use Rattle.std.specs.Prelude.{◌≡◌, ◌<◌, ◌≤◌, ℕ, Bool, List, [], ◌∷◌, Option, Result, IfOk, IfSome, OnErr, OnOk, is_some, length, true};
+ghost use Rattle.ipx_carrier.specs.declared.fault.DeviceFault.{DeviceFault};
 ghost use Rattle.ipx_carrier.specs.Readiness.{AsksPortWithMark, MarksStay};
+ghost use Rattle.ipx_ipxnet_ports.specs.declared.place_sockets.DatagramCame.{DatagramCame};
 ghost use Rattle.ipx_ipxnet_ports.specs.PlaceTraffic.{PlaceTraffic, PlacesPass, came_from_place, failures_with, place_datagram, place_datagrams};
 
 use ipx_carrier::DeviceFault;
@@ -37,6 +39,10 @@ pub trait PlaceSockets {
     /// Whether something may wait at each port. Sockets that keep no marks say so of each.
     ghost marked: { Self → ℕ → Bool } = { λ s port. true };
 
+    /// What `receive` does: at this port it gives this answer, with this buffer then, and the
+    /// sockets before become those after.
+    ghost asks: { ℕ → Result (Option DatagramCame) DeviceFault → List ℕ → Self → Self → Type 0 };
+
     /// How many ports there are.
     fn ports(&self) -> usize
         ensures { result ≡ port_count self.now };
@@ -68,6 +74,7 @@ pub trait PlaceSockets {
     /// The port must exist.
     fn receive(&mut self, port: usize, room: &mut [u8]) -> Result<Option<DatagramCame>, DeviceFault>
         requires { port < port_count self.old }
+        ensures asked { asks port result room.new self.old self.new }
         ensures received { IfOk result (λ came. PlacesPass (traffic self.old) (traffic self.new)
             (place_datagrams (came_from_place port room.new came)) []) }
         ensures within { IfOk result (λ came. IfSome came (λ c. c.size ≤ length room.old)) }

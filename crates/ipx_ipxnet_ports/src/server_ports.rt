@@ -3,7 +3,7 @@
 ghost use Rattle.std.specs.Prelude.{◌≡◌, ◌<◌, ◌≤◌, ◌+◌, ◌^◌, [], Option, None, IfOk, IfSome, OnErr, is_some, length, min, slice_set, true};
 ghost use Rattle.ipx_carrier.specs.PortDrivers.{copies_count, count_in};
 ghost use Rattle.ipx_carrier.specs.Readiness.{AsksPortWithMark, MarksStay};
-ghost use Rattle.ipx_ipxnet_ports.specs.OnServers.{HearsAtServer, PingsAtServer, PingsAtServers, ReceivesAtServer, SendsThroughServer, by_servers, is_any_pinged, servers_view, server_ports, packet_said};
+ghost use Rattle.ipx_ipxnet_ports.specs.OnServers.{AreAskedForDatagram, HearsAtServer, PingsAtServer, PingsAtServers, ReceivesAtServer, SendsThroughServer, by_servers, is_any_pinged, servers_view, server_ports, packet_said};
 ghost use Rattle.ipx_ipxnet_ports.specs.PlaceTraffic.{PlaceDatagram, place_datagram};
 ghost use Rattle.ipxnet_server.specs.Pings.{IsNextPing};
 
@@ -287,6 +287,14 @@ impl<D: PlaceSockets + Drop> PortDriver for Servers<D> {
     fn receive(&mut self, port: usize, room: &mut [u8]) -> Result<Option<usize>, DeviceFault>
         requires there { port < min (length self.old.servers.items)
             (D.port_count self.old.sockets) }
+        // The sockets were asked at the port, and what they answered is received.
+        ensures asked { IfOk result (λ up. (came : Option PlaceDatagram)
+            × AreAskedForDatagram D.asks port self.old.sockets came self.new.sockets
+            × ReceivesAtServer self.old.moment (length room.old) came room.new up
+            (servers_view self.old.servers.items self.old.kept
+            (D.traffic self.old.sockets) (D.failed self.old.sockets))
+            (servers_view self.new.servers.items self.new.kept
+            (D.traffic self.new.sockets) (D.failed self.new.sockets))) }
         // A datagram came from an address and the server received it, or none came, or the sockets
         // failed.
         ensures received { IfOk result (λ up. (came : Option PlaceDatagram)

@@ -6,9 +6,9 @@ ghost use Rattle.std.specs.Net.Socket.{v4_ip};
 ghost use Rattle.ipx_carrier.specs.declared.placed_socket.PlacedSocket.{PlacedSocket};
 ghost use Rattle.ipx_carrier.specs.Counting.{raised};
 ghost use Rattle.ipx_carrier.specs.Readiness.{AsksPortWithMark};
-ghost use Rattle.ipx_carrier.specs.ReadySet.{IsFilteredOrAnswer, is_come, is_port_marked, marks_after};
+ghost use Rattle.ipx_carrier.specs.ReadySet.{is_port_marked};
 ghost use Rattle.ipx_carrier.specs.Traces.{Got, TriesToReceive};
-ghost use Rattle.ipx_ipxnet_ports.specs.ServerAddresses.{AsksForDatagram, RefusesToPlace, SendsToPlace, bound_places, ips_heard, ipv4_of_place, is_ip_heard, last_refused, listed_ips, place_heard, server_fds, with_place};
+ghost use Rattle.ipx_ipxnet_ports.specs.ServerAddresses.{AsksMarkedPort, RefusesToPlace, SendsToPlace, bound_places, ips_heard, ipv4_of_place, is_ip_heard, listed_ips, place_heard, server_fds, with_place};
 ghost use Rattle.ipx_ipxnet_ports.specs.PlaceTraffic.{failures_with};
 
 use crate::allow::Allow;
@@ -185,6 +185,7 @@ impl ServerSockets {
 
 impl PlaceSockets for ServerSockets {
     ghost use Rattle.std.specs.Prelude.{None};
+    ghost use Rattle.ipx_ipxnet_ports.specs.ServerAddresses.{AsksServerSockets};
 
     ghost port_count = { λ s. length s.sockets.items };
 
@@ -196,6 +197,8 @@ impl PlaceSockets for ServerSockets {
     ghost filtered = { λ s. s.nowhere };
 
     ghost marked = { λ s. is_port_marked s.marks };
+
+    ghost asks = { AsksServerSockets };
 
     fn ports(&self) -> usize {
         self.sockets.len()
@@ -242,11 +245,7 @@ impl PlaceSockets for ServerSockets {
         // came from an accepted address is returned. What came from another is counted, and its
         // IP address is the last unknown one.
         ensures marked { is_port_marked self.old.marks port ≡ true → IfOk result (λ answer.
-            (got : Got) × AsksForDatagram port got room.new answer self.old.sockets.items
-            self.new.sockets.items self.old.faults self.new.faults
-            × (self.new.marks ≡ marks_after port got self.old.marks)
-            × (self.new.last_unknown ≡ last_refused got (is_some answer) self.old.last_unknown)
-            × IsFilteredOrAnswer (is_come got) (is_some answer) self.old.nowhere self.new.nowhere) }
+            AsksMarkedPort port answer room.new self.old self.new) }
         ensures marks { IfOk result (λ answer. AsksPortWithMark port (is_some answer)
             (is_port_marked self.old.marks) (is_port_marked self.new.marks)) }
         ensures within { IfOk result (λ came. IfSome came (λ c. c.size ≤ length room.old)) }
