@@ -207,7 +207,7 @@ impl Pacer {
         } }
     {
         let next = self.next();
-        let queued = self.trip.is_queued();
+        let queued = self.trip.is_queued(now);
         self.safe = next;
         self.window.lessen(queued);
         self.repair = LossRecovery::begin(self.base, next, now);

@@ -3,59 +3,68 @@
 /// How long a period is, in milliseconds.
 const PERIOD: u64 = 10_000;
 
-/// The least round trip of the present period and of the one before, which are the last 10 to 20
-/// seconds. So after a move to a longer path the shorter round trip is forgotten.
+/// The least round trip of a period and of the one before it. A period begins at each multiple of
+/// ten seconds. So each round trip is remembered for 10 to 20 seconds, and after a move to a longer
+/// path the shorter one is forgotten.
 #[derive(Clone, Copy)]
 pub struct LeastTrip {
+    /// The number of the period in which a round trip was noted last.
+    period: u64,
+    /// The least one of that period.
     present: Option<u64>,
+    /// The least one of the period before that.
     before: Option<u64>,
-    /// When the present period began.
-    since: u64,
 }
 
 impl LeastTrip {
     /// Nothing is measured yet.
     pub fn new() -> LeastTrip {
         LeastTrip {
+            period: 0,
             present: None,
             before: None,
-            since: 0,
         }
     }
 
-    /// The least round trip. None before anything is measured.
-    pub fn get(&self) -> Option<u64> {
+    /// What is remembered at this time. If the clock went back, no time has passed.
+    fn at(self, now: u64) -> LeastTrip {
+        let period = now / PERIOD;
+        if period <= self.period {
+            return self;
+        }
+        let is_next = period - self.period == 1;
+        LeastTrip {
+            period,
+            present: None,
+            before: if is_next { self.present } else { None },
+        }
+    }
+
+    /// The least round trip as of the last one that was noted. None before anything is measured.
+    pub fn last(self) -> Option<u64> {
         match (self.present, self.before) {
             (Some(present), Some(before)) => Some(present.min(before)),
             (present, before) => present.or(before),
         }
     }
 
+    /// The least round trip that is remembered at this time.
+    pub fn get(self, now: u64) -> Option<u64> {
+        self.at(now).last()
+    }
+
     /// Whether the least round trip is forgotten when the next one is noted, though longer ones
     /// were measured since.
-    pub fn is_forgotten(&self, now: u64) -> bool {
+    pub fn is_forgotten(self, now: u64) -> bool {
         match (self.present, self.before) {
-            (Some(present), Some(before)) => before < present && self.age(now) >= PERIOD,
+            (Some(present), Some(before)) => before < present && now / PERIOD > self.period,
             _ => false,
         }
     }
 
     /// Adds a round trip that was measured now.
     pub fn note(&mut self, trip: u64, now: u64) {
-        let age = self.age(now);
-        if age >= 2 * PERIOD {
-            self.present = None;
-        }
-        if age >= PERIOD {
-            self.before = self.present;
-            self.present = None;
-            self.since = now;
-        }
+        *self = self.at(now);
         self.present = Some(self.present.map_or(trip, |least| least.min(trip)));
-    }
-
-    /// How long the present period has lasted.
-    fn age(&self, now: u64) -> u64 {
-        now.saturating_sub(self.since)
     }
 }

@@ -87,8 +87,9 @@ impl RoundTrip {
     /// The round trip without a queue and the present one, if the first is about to be forgotten
     /// and there seems to be a queue on the line.
     pub fn forgotten(&self, now: u64) -> Option<(u64, u64)> {
-        if self.least.is_forgotten(now) && self.is_queued() {
-            Some((self.least.get()?, self.smoothed()))
+        let least = self.least.last()?;
+        if self.least.is_forgotten(now) && self.is_over(least, 8, 16) {
+            Some((least, self.smoothed()))
         } else {
             None
         }
@@ -129,21 +130,20 @@ impl RoundTrip {
 
     /// Whether there is a queue on the line: the least of the last eight samples exceeds the least
     /// of the last seconds by an eighth, at least 4 and at most 16 (RFC 9406, its threshold).
-    pub fn is_queued(&self) -> bool {
-        self.is_over(8, 16)
+    pub fn is_queued(&self, now: u64) -> bool {
+        let least = self.least.get(now);
+        least.is_some_and(|least| self.is_over(least, 8, 16))
     }
 
     /// Whether a queue begins to form: the excess is a 32nd, at least 4 and at most 8.
-    pub fn is_slowing(&self) -> bool {
-        self.is_over(32, 8)
+    pub fn is_slowing(&self, now: u64) -> bool {
+        let least = self.least.get(now);
+        least.is_some_and(|least| self.is_over(least, 32, 8))
     }
 
-    /// Whether the last eight samples exceed the least of all by that fraction of it, at least 4
-    /// and at most `most`.
-    fn is_over(&self, part: u64, most: u64) -> bool {
-        let Some(least) = self.least.get() else {
-            return false;
-        };
+    /// Whether the last eight samples exceed the least one by that fraction of it, at least 4 and
+    /// at most `most`.
+    fn is_over(&self, least: u64, part: u64, most: u64) -> bool {
         let over = (least / part.max(1)).max(4).min(most);
         self.recent
             .iter()

@@ -94,7 +94,7 @@ impl Window {
         }
         if !self.is_starting() {
             self.climb(units, now, trip);
-        } else if self.ends_start(trip) {
+        } else if self.ends_start(now, trip) {
             self.threshold = self.size;
             self.top = self.size;
             self.fresh = true;
@@ -111,13 +111,13 @@ impl Window {
             None => now,
         };
         let soon = trip.smoothed().saturating_mul(5);
-        self.fresh && !trip.is_slowing() && now.saturating_sub(since) <= soon
+        self.fresh && !trip.is_slowing(now) && now.saturating_sub(since) <= soon
     }
 
     /// Whether slow start ends: there is a queue on the line, or one begins and the window is no
     /// longer small.
-    fn ends_start(&self, trip: &RoundTrip) -> bool {
-        trip.is_queued() || (self.size >= SMALL && trip.is_slowing())
+    fn ends_start(&self, now: u64, trip: &RoundTrip) -> bool {
+        trip.is_queued(now) || (self.size >= SMALL && trip.is_slowing(now))
     }
 
     /// Grows as in RFC 9438, as fast as three flows.
@@ -126,7 +126,7 @@ impl Window {
         let share = self.share_of(units.saturating_mul(3));
         self.estimate = self.estimate.saturating_add(share);
         let mut target = self.estimate;
-        if !trip.is_queued() {
+        if !trip.is_queued(now) {
             let at = epoch.since.saturating_add(epoch.back_in);
             let soon = now.saturating_add(trip.smoothed());
             target = target.max(window_at(self.top, at, soon));
