@@ -6,7 +6,7 @@ use Rattle.std.proofs.lemmas.List.Folds.{list_any-append}
 use Rattle.std.proofs.lemmas.List.Quantifiers.{position-Some}
 use Rattle.std.proofs.lemmas.Option.{get_or_from_slice_get, slice_get-get_or}
 use Rattle.std.specs.List.{list_any, position}
-use Rattle.std.specs.Prelude.{All, IfSome, MatchOption, nat_le, remove}
+use Rattle.std.specs.Prelude.{All, IfSome, MatchOption, if◌then◌else◌, nat_le, remove}
 use Rattle.ipx_carrier.specs.Turns.{Peers}
 use Rattle.ipx_wire.specs.declared.address.Address.{Address}
 use Rattle.spx_messages.specs.EndpointView.{EndpointView, Held, held_at}
@@ -99,14 +99,6 @@ not_unanswered : (u v : Bool) → not u ≡ true → (u && v) ≡ true → ⊥
 not_unanswered true v e o = absurd (cc)
 not_unanswered false v e o = absurd (cc)
 
-no_room_by : (now id : ℕ) (from asker : Address) (c : Session) (e e' : EndpointView) (ts : List Session) (found : Option ℕ) → Is id from c → place_to_free true e.network e now asker (c ∷ []) ≡ found
-    → MatchOption found ((ts ≡ c ∷ []) × (e' ≡ e)) (λ place. (ts ≡ remove (c ∷ []) place) × IfSome (slice_get (c ∷ []) place) (λ k. LetsLinkGo e e' k.id))
-    → ts ≡ c ∷ []
-no_room_by now id from asker c e e' ts None one is d = d.0
-no_room_by now id from asker c e e' ts (Some zero) one is d =
-    absurd (not_unanswered (is_unheard c.phase) (nat_le 1500 (now - c.heard)) one.2 (position-Some (is_unanswered now) (c ∷ []) 0 c is).1)
-no_room_by now id from asker c e e' ts (Some (suc n)) one is d = absurd (omega (arith, (position-Some (is_unanswered now) (c ∷ []) (suc n) c is).0))
-
 own_at : (now : ℕ) (asker : Address) (c : Session) (e : EndpointView) (k id : ℕ) (from : Address) → Is id from c → k < 1
     → (is_unanswered now (get_or (c ∷ []) k c) && is_of_node e.network asker (get_or (c ∷ []) k c)) ≡ true → ⊥
 own_at now asker c e zero id from one within is =
@@ -124,6 +116,20 @@ own_by now id from asker c e mid ts (Some k) one is d =
     let own : Session → Bool = λ k. is_unanswered now k && is_of_node e.network asker k in
     let at = position-Some own (c ∷ []) k c (only_if (is_at_limit e.network asker (c ∷ [])) (position own (c ∷ [])) k is) in
     absurd (own_at now asker c e k id from one at.0 at.1)
+
+-- where its node is at its limit or not, it is not evicted for a request that found no link
+no_room_if : (b : Bool) (now id : ℕ) (from asker : Address) (c : Session) (e e' : EndpointView) (ts : List Session) (found : Option ℕ) → Is id from c
+    → (if b then place_of_own true e.network e now asker (c ∷ []) else position (is_unanswered now) (c ∷ [])) ≡ found
+    → Evicts found e e' (c ∷ []) ts → ts ≡ c ∷ []
+no_room_if true now id from asker c e e' ts found one is d = own_by now id from asker c e e' ts found one is d
+no_room_if false now id from asker c e e' ts None one is d = d.0
+no_room_if false now id from asker c e e' ts (Some zero) one is d =
+    absurd (not_unanswered (is_unheard c.phase) (nat_le 1500 (now - c.heard)) one.2 (position-Some (is_unanswered now) (c ∷ []) 0 c is).1)
+no_room_if false now id from asker c e e' ts (Some (suc n)) one is d = absurd (omega (arith, (position-Some (is_unanswered now) (c ∷ []) (suc n) c is).0))
+
+no_room_by : (now id : ℕ) (from asker : Address) (c : Session) (e e' : EndpointView) (ts : List Session) (found : Option ℕ) → Is id from c → place_to_free true e.network e now asker (c ∷ []) ≡ found
+    → Evicts found e e' (c ∷ []) ts → ts ≡ c ∷ []
+no_room_by now id from asker c e e' ts found one is d = no_room_if (is_at_limit e.network asker (c ∷ [])) now id from asker c e e' ts found one is d
 
 noted_alone : (came : Option Arrival) (now id : ℕ) (from : Address) (e e' : EndpointView) (c : Session) (ts : List Session) → Is id from c
     → DoesNoted true came now e e' (c ∷ []) ts → Goes id from (is_ended c) ts

@@ -1,5 +1,5 @@
 -- Connections of a host, one behind the other.
-use Rattle.std.proofs.Common.{◌&&◌, is_some, ◌≡◌, ◌||◌, ◌⊎◌, inl, inr, slice_get, ℕ, zero, suc, ◌+◌, ◌<◌, ◌≤◌, ◌==◌, Bool, true, false, not, cond, List, [], ◌∷◌, ◌++◌, length, take, drop, set, get_or, length-append, length-set, Option, Some, None, map, Result, Ok, Err, refl, sym, ap, ◌∙◌, subst, arith, append_assoc, append-nil}
+use Rattle.std.proofs.Common.{◌&&◌, ◌≡◌, ◌||◌, ◌⊎◌, inl, inr, slice_get, ℕ, zero, suc, ◌+◌, ◌<◌, ◌≤◌, ◌==◌, Bool, true, false, not, cond, List, [], ◌∷◌, ◌++◌, length, take, drop, set, get_or, length-append, length-set, Option, Some, None, map, Result, Ok, Err, refl, sym, ap, ◌∙◌, subst, arith, append_assoc, append-nil}
 use Rattle.std.proofs.lemmas.List.{get_or_default, take_more}
 use Rattle.std.proofs.lemmas.List.Edits.{map_over_more}
 use Rattle.std.proofs.lemmas.List.Elements.{All-more}
@@ -15,7 +15,7 @@ use Rattle.spx_messages.specs.Taking.{TakenView, Nothing, Part, PeerEnd, Whole, 
 use Rattle.spx_messages.specs.declared.fault.EndFault.{EndFault}
 use Rattle.ipx_wire.specs.declared.address.Address.{Address}
 use Rattle.ipx_wire.specs.declared.address.Network.{Network}
-use Rattle.ipx_host.specs.Sessions.{Admits, Asks as IsAsked, Evicts, has_spoken, heard_by, is_at_limit, is_ended, is_of_node, is_unanswered, is_to_go, is_unanswered, KeepsHeard, KeepsOne, LetsLinkGo, LetsLinksGo, MakesSpace, once_heard, OnlyEnded, place_of_own, place_of_own_unanswered, place_to_free, without}
+use Rattle.ipx_host.specs.Sessions.{Admits, Asks as IsAsked, Evicts, has_spoken, heard_by, is_at_limit, is_ended, is_of_node, is_unanswered, KeepsHeard, KeepsOne, LetsLinkGo, LetsLinksGo, MakesSpace, once_heard, OnlyEnded, place_of_own, place_of_own_unanswered, place_to_free, without}
 use Rattle.ipx_host.specs.HostOutput.{Writes}
 use Rattle.ipx_host.specs.Tending.{DoesAction, IsActionFor, JustStays, Tends}
 use Rattle.ipx_host.specs.declared.paced_host_core.PacedHostCore.{PacedHostCore}
@@ -536,23 +536,24 @@ pub are_without : (found : Option ℕ) (old new : EndpointView) (cs cs' : List S
 are_without None old new cs cs' evicts = evicts.0
 are_without (Some place) old new cs cs' evicts = evicts.0
 
--- the place of a connection that is evicted is one of the list
-freed_by : (of : Bool) (e : EndpointView) (now : ℕ) (asker : Address) (own : Network) (cs : List Session) (place : ℕ) (d : Session)
-    → (if of then position (is_unanswered now) cs else position (is_to_go own e now asker cs) cs) ≡ Some place → place < length cs
-freed_by true e now asker own cs place d is = (position-Some (is_unanswered now) cs place d is).0
-freed_by false e now asker own cs place d is = (position-Some (is_to_go own e now asker cs) cs place d is).0
+-- the place of a connection that is evicted for a request that found no link is one of the list
+freed_by : (b : Bool) (e : EndpointView) (now : ℕ) (asker : Address) (cs : List Session) (place : ℕ) (d : Session)
+    → (if b then place_of_own true e.network e now asker cs else position (is_unanswered now) cs) ≡ Some place → place < length cs
+freed_by true e now asker cs place d is = own_within (is_at_limit e.network asker cs) now e.network asker cs place d is
+freed_by false e now asker cs place d is = (position-Some (is_unanswered now) cs place d is).0
 
-room_kept : (once : Bool) (now : ℕ) (asker : Address) (cs cs' : List Session) (left : List ℕ) (old new : EndpointView) (found : Option ℕ) → place_to_free once old.network old now asker cs ≡ found
-    → KeepsOne once cs left → MatchOption found ((cs' ≡ cs) × (new ≡ old)) (λ place. (cs' ≡ remove cs place) × IfSome (slice_get cs place) (λ c. LetsLinkGo old new c.id)) → KeepsOne once cs' left
-room_kept once now asker cs cs' left old new None is keeps k = subst (λ (l : List Session). KeepsOne once l left) (sym k.0) keeps
-room_kept true now asker [] cs' left old new (Some place) is keeps k = absurd (cc)
-room_kept false now asker [] cs' left old new (Some place) is keeps k = absurd (cc)
-room_kept once now asker (d ∷ ds) cs' left old new (Some place) is keeps k =
-    subst (λ (l : List Session). KeepsOne once l left) (sym k.0)
-    (keeps_removed once (d ∷ ds) left place (freed_by (once || is_some (position (is_unanswered now) (d ∷ ds))) old now asker old.network (d ∷ ds) place d is) keeps)
+room_kept : (now : ℕ) (asker : Address) (cs cs' : List Session) (left : List ℕ) (old new : EndpointView) (found : Option ℕ) → place_to_free true old.network old now asker cs ≡ found
+    → Evicts found old new cs cs' → KeepsOne true cs left → KeepsOne true cs' left
+room_kept now asker cs cs' left old new None is evicts keeps = subst (λ (l : List Session). KeepsOne true l left) (sym evicts.0) keeps
+room_kept now asker [] cs' left old new (Some place) is evicts keeps =
+    absurd (omega (arith, freed_by (is_at_limit old.network asker []) old now asker [] place (record { id = 0; from = asker; heard = 0; phase = Standings.New }) is))
+room_kept now asker (d ∷ ds) cs' left old new (Some place) is evicts keeps =
+    subst (λ (l : List Session). KeepsOne true l left) (sym evicts.0)
+    (keeps_removed true (d ∷ ds) left place (freed_by (is_at_limit old.network asker (d ∷ ds)) old now asker (d ∷ ds) place d is) keeps)
 
 pub keeps_room : (once : Bool) (now : ℕ) (asker : Address) (cs cs' : List Session) (left : List ℕ) (old new : EndpointView) → MakesSpace once now asker old new cs cs' → KeepsOne once cs left → KeepsOne once cs' left
-keeps_room once now asker cs cs' left old new k keeps = room_kept once now asker cs cs' left old new (place_to_free once old.network old now asker cs) refl keeps k
+keeps_room false now asker cs cs' left old new makes keeps = keeps
+keeps_room true now asker cs cs' left old new makes keeps = room_kept now asker cs cs' left old new (place_to_free true old.network old now asker cs) refl makes keeps
 
 pub keeps_asks : (once : Bool) (cs : List Session) (left : List ℕ) (place : ℕ) (c' d : Session) (now : ℕ) (old new : EndpointView) → place < length cs → IsAsked now old new (get_or cs place d) c'
     → KeepsOne once cs left → KeepsOne once (set cs place c') left

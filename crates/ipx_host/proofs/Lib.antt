@@ -17,3 +17,4 @@ pub mod Reading
 pub mod Rounded
 pub mod Slept
 pub mod Coming
+pub mod Sparing

@@ -1,6 +1,6 @@
 -- The connections that a listening host holds, as they are accepted, heard from and released. Nothing here is
 -- from a public standard.
-use Rattle.std.specs.Prelude.{◌≡◌, ◌≤◌, ◌↔◌, ◌⊎◌, ◌==◌, ◌&&◌, ◌||◌, ◌+◌, ◌-◌, ℕ, Bool, true, false, not, IsTrue, List, [], ◌∷◌, ◌++◌, length, map, position, remove, count_by, slice_get, slice_set, nat_eq, nat_le, nat_lt, is_some, Option, Some, None, IfSome, MatchOption, if◌then◌else◌}
+use Rattle.std.specs.Prelude.{◌≡◌, ◌≤◌, ◌↔◌, ◌⊎◌, ◌==◌, ◌&&◌, ◌||◌, ◌+◌, ◌-◌, ℕ, Bool, true, false, not, IsTrue, List, [], ◌∷◌, ◌++◌, length, map, filter, position, remove, count_by, slice_get, slice_set, nat_eq, nat_le, nat_lt, is_some, Option, Some, None, IfSome, MatchOption, if◌then◌else◌}
 use Rattle.std.specs.List.{list_any}
 use Rattle.std.specs.Cmp.Lexicographic.{pointwise}
 use Rattle.std.specs.Coded.{Unit-prop}
@@ -145,10 +145,10 @@ abbrev pub is_to_go : Network → EndpointView → ℕ → Address → List Sess
 is_to_go own e now asker sessions c = may_go_for own e now asker sessions c
     && not (list_any (λ d. goes_before own e now asker sessions d c) sessions)
 
--- the connection that is evicted for a request from an address: the first unanswered one, or if there is none,
--- and without `once`, a silent one of the node that asks or of a node that has more connections
-abbrev pub place_to_free : Bool → Network → EndpointView → ℕ → Address → List Session → Option ℕ
-place_to_free once own e now asker sessions =
+-- the connection that is evicted for a request of a node that is below its limit: the first unanswered one, or
+-- if there is none, and without `once`, a silent one of that node or of a node that has more connections
+abbrev pub place_of_any : Bool → Network → EndpointView → ℕ → Address → List Session → Option ℕ
+place_of_any once own e now asker sessions =
     let unanswered = position (is_unanswered now) sessions in
     if once || is_some unanswered then unanswered
     else position (is_to_go own e now asker sessions) sessions
@@ -181,6 +181,13 @@ place_of_own once own e now from sessions =
     else (if list_any (is_unheard_of own from) sessions then None
     else position (is_first_own own e now from sessions) sessions))
 
+-- the connection that is evicted for a request that found no link: a node that is at its limit evicts only its
+-- own connections
+abbrev pub place_to_free : Bool → Network → EndpointView → ℕ → Address → List Session → Option ℕ
+place_to_free once own e now asker sessions =
+    if is_at_limit own asker sessions then place_of_own once own e now asker sessions
+    else place_of_any once own e now asker sessions
+
 -- the connection at a place is evicted and its link released, if there is such a place
 abbrev pub Evicts : Option ℕ → EndpointView → EndpointView → List Session → List Session → Type 0
 Evicts found old new sessions sessions' = MatchOption found ((sessions' ≡ sessions) × (new ≡ old))
@@ -191,6 +198,15 @@ Evicts found old new sessions sessions' = MatchOption found ((sessions' ≡ sess
 abbrev pub MakesSpace : Bool → ℕ → Address → EndpointView → EndpointView → List Session → List Session → Type 0
 MakesSpace once now asker old new sessions sessions' =
     Evicts (place_to_free once old.network old now asker sessions) old new sessions sessions'
+
+-- the connections of other nodes than that of an address
+abbrev pub of_others : Network → Address → List Session → List Session
+of_others own from sessions = filter (λ c. not (is_of_node own from c)) sessions
+
+-- a request of a node that is at its limit evicts only connections of that node: those of other nodes stay
+abbrev pub SparesOthers : Network → Address → List Session → List Session → Type 0
+SparesOthers own asker sessions sessions' = IsTrue (is_at_limit own asker sessions)
+    → of_others own asker sessions' ≡ of_others own asker sessions
 
 -- the sessions without the one at a place, if there is such a place
 abbrev pub without : Option ℕ → List Session → List Session
@@ -208,20 +224,20 @@ AdmitsRequest once now a old new sessions sessions' = (mid : EndpointView) × (b
 abbrev pub raised_if : Bool → ℕ → ℕ
 raised_if more n = if more then raised n else n
 
--- a connection that was heard from is evicted
-abbrev pub is_silent_evicted : Bool → Network → EndpointView → ℕ → Address → List Session → Bool
-is_silent_evicted once own e now asker sessions = is_some (place_to_free once own e now asker sessions)
-    && not (is_some (position (is_unanswered now) sessions))
+-- the connection at a place, if there is such a place
+abbrev pub session_at : Option ℕ → List Session → Option Session
+session_at None sessions = None
+session_at (Some place) sessions = slice_get sessions place
 
--- the same for one of its own node
-abbrev pub is_own_evicted : Bool → Network → EndpointView → ℕ → Address → List Session → Bool
-is_own_evicted once own e now from sessions = is_some (place_of_own once own e now from sessions)
-    && not (is_some (place_of_own_unanswered own now from sessions))
+-- there is a connection, and it was heard from
+abbrev pub is_heard_one : Option Session → Bool
+is_heard_one None = false
+is_heard_one (Some c) = has_spoken c
 
--- an unanswered connection, which was never heard from, is evicted for a request of its own node
-abbrev pub is_own_unheard_evicted : Bool → Network → EndpointView → ℕ → Address → List Session → Bool
-is_own_unheard_evicted once own e now from sessions = is_some (place_of_own once own e now from sessions)
-    && is_some (place_of_own_unanswered own now from sessions)
+-- there is a connection, and it was never heard from
+abbrev pub is_unheard_one : Option Session → Bool
+is_unheard_one None = false
+is_unheard_one (Some c) = is_unheard c.phase
 
 -- how many of these connections were never heard from
 abbrev pub unheard_in : List Session → ℕ
@@ -256,24 +272,22 @@ CountsRequest once (Some (Cames.Accepted a)) own e now sessions count count' = C
     a.from (without (place_of_own once own e now a.from sessions) sessions) count count'
 CountsRequest once (Some (Cames.NoRoom asker)) own e now sessions count count' = count' ≡ raised count
 
--- a connection that was heard from is evicted for what the core noted: a request of a node that has too many,
--- or one that found no link
-abbrev pub is_evicted_for : Bool → Option Arrival → Network → EndpointView → ℕ → List Session → Bool
-is_evicted_for once None own e now sessions = false
-is_evicted_for once (Some (Cames.Heard id)) own e now sessions = false
-is_evicted_for once (Some (Cames.Accepted a)) own e now sessions =
-    is_own_evicted once own e now a.from sessions
-is_evicted_for once (Some (Cames.NoRoom asker)) own e now sessions =
-    is_silent_evicted once own e now asker sessions
+-- the address that asks for a connection in what the core noted
+abbrev pub asker_of : Option Arrival → Option Address
+asker_of None = None
+asker_of (Some (Cames.Heard id)) = None
+asker_of (Some (Cames.Accepted a)) = Some a.from
+asker_of (Some (Cames.NoRoom asker)) = Some asker
 
--- the same for a connection that was never heard from: an unanswered one
-abbrev pub is_unheard_evicted_for : Bool → Option Arrival → Network → EndpointView → ℕ → List Session → Bool
-is_unheard_evicted_for once None own e now sessions = false
-is_unheard_evicted_for once (Some (Cames.Heard id)) own e now sessions = false
-is_unheard_evicted_for once (Some (Cames.Accepted a)) own e now sessions =
-    is_own_unheard_evicted once own e now a.from sessions
-is_unheard_evicted_for once (Some (Cames.NoRoom asker)) own e now sessions =
-    is_some (position (is_unanswered now) sessions)
+-- the connection that is evicted for what the core noted: a request of a node at its limit, or one that found
+-- no link
+abbrev pub evicted_for : Bool → Option Arrival → Network → EndpointView → ℕ → List Session → Option Session
+evicted_for once None own e now sessions = None
+evicted_for once (Some (Cames.Heard id)) own e now sessions = None
+evicted_for once (Some (Cames.Accepted a)) own e now sessions =
+    session_at (place_of_own once own e now a.from sessions) sessions
+evicted_for once (Some (Cames.NoRoom asker)) own e now sessions =
+    session_at (place_to_free once own e now asker sessions) sessions
 
 -- a host handles what its core noted last, once
 abbrev pub NotesHeard : Bool → PacedHostCore → PacedHostCore → List Session → List Session → Type 0

@@ -1,9 +1,9 @@
 //! Who gets a slot among the connections of a host that listens, and which connection is evicted for a
 //! new request.
 
-ghost use Rattle.std.specs.Prelude.{◌≡◌, ◌↔◌, ◌<◌, ◌≤◌, ◌&&◌, true, count_by, is_some, length, map, nat_lt, position, slice_get, vec_capacity, IfSome, IsTrue};
+ghost use Rattle.std.specs.Prelude.{◌≡◌, ◌↔◌, ◌<◌, ◌≤◌, ◌&&◌, true, count_by, is_some, length, map, nat_lt, position, vec_capacity, IfSome, IsTrue};
 ghost use Rattle.std.specs.List.{list_any};
-ghost use Rattle.ipx_host.specs.Sessions.{Admits, Asks, Evicts, IsAskedUnless, HasNoPlaceFor, IsOutOfMemory, KeepsHeard, LetsLinkGo, LetsLinksGo, MakesSpace, goes_before, has_more, heard_by, has_spoken, is_at_limit, is_first_own, is_of_node, is_unanswered, is_own_silent, is_to_go, is_unheard_of, may_go, may_go_for, place_of_own, place_of_own_unanswered, place_to_free, protects, raised_if};
+ghost use Rattle.ipx_host.specs.Sessions.{Admits, Asks, Evicts, IsAskedUnless, HasNoPlaceFor, IsOutOfMemory, KeepsHeard, LetsLinkGo, LetsLinksGo, MakesSpace, goes_before, has_more, heard_by, has_spoken, is_at_limit, is_first_own, is_of_node, is_unanswered, is_own_silent, is_to_go, is_unheard_of, may_go, may_go_for, place_of_any, place_of_own, place_of_own_unanswered, place_to_free, protects, raised_if, session_at};
 
 use crate::sessions::{Session, hear_one};
 use ipx_wire::{Address, Network};
@@ -63,7 +63,8 @@ fn count_unheard_of(sessions: &[Session], own: Network, from: &Address) -> usize
         .count()
 }
 
-/// Whether the node of an address has 8 connections, or 4 that were not heard from.
+/// Whether the node of an address is at its limit: it has 8 connections, or 4 that were not heard
+/// from.
 fn is_at_limit(sessions: &[Session], own: Network, from: &Address) -> bool
     ensures { result ≡ is_at_limit own from.now sessions.now }
 {
@@ -120,7 +121,7 @@ fn place_of_heard(sessions: &[Session]) -> Option<usize>
 }
 
 /// The place of the first connection that is unanswered.
-pub fn place_of_unanswered(sessions: &[Session], moment: u64) -> Option<usize>
+fn place_of_unanswered(sessions: &[Session], moment: u64) -> Option<usize>
     ensures place { result ≡ position (is_unanswered moment) sessions.now }
     ensures there { IfSome result (λ place. place < length sessions.now) }
 {
@@ -256,10 +257,10 @@ fn place_of_silent(
     sessions.iter().position(|session| is_to_go(own, endpoint, sessions, moment, asker, session))
 }
 
-/// The place of the connection that is evicted for a request: the first unanswered one, or if there is
-/// none, and without `once`, a silent one of the node that asks or of a node that has more
-/// connections.
-fn place_to_evict(
+/// The place of the connection that is evicted for a request of a node that is below its limit: the
+/// first unanswered one, or if there is none, and without `once`, a silent one of that node or of a
+/// node that has more connections.
+fn place_of_any(
     once: bool,
     own: Network,
     endpoint: &Endpoint,
@@ -267,7 +268,7 @@ fn place_to_evict(
     moment: u64,
     asker: &Address,
 ) -> Option<usize>
-    ensures place { result ≡ place_to_free once own endpoint.now moment asker.now sessions.now }
+    ensures place { result ≡ place_of_any once own endpoint.now moment asker.now sessions.now }
     ensures there { IfSome result (λ place. place < length sessions.now) }
 {
     let unanswered = place_of_unanswered(sessions, moment);
@@ -276,21 +277,6 @@ fn place_to_evict(
     } else {
         place_of_silent(own, endpoint, sessions, moment, asker)
     }
-}
-
-/// `place_to_evict` for the network of the endpoint.
-fn place_in(
-    once: bool,
-    endpoint: &Endpoint,
-    sessions: &[Session],
-    moment: u64,
-    asker: &Address,
-) -> Option<usize>
-    ensures place { result
-        ≡ place_to_free once endpoint.now.network endpoint.now moment asker.now sessions.now }
-    ensures there { IfSome result (λ place. place < length sessions.now) }
-{
-    place_to_evict(once, endpoint.network(), endpoint, sessions, moment, asker)
 }
 
 /// Whether a connection of the node of an address may be evicted.
@@ -339,8 +325,8 @@ fn is_first_own(
         && !is_any_own_before(own, endpoint, sessions, moment, from, session)
 }
 
-/// The place of the first unanswered connection of the node of an address, for a host of a network.
-fn place_of_own_unanswered_on(
+/// The place of the first unanswered connection of the node of an address.
+fn place_of_own_unanswered(
     own: Network,
     sessions: &[Session],
     moment: u64,
@@ -351,18 +337,6 @@ fn place_of_own_unanswered_on(
 {
     sessions.iter().position(|session| session.is_unanswered(moment)
         && session.is_of_node(own, from))
-}
-
-/// The place of the first unanswered connection of the node of an address.
-pub fn place_of_own_unanswered(
-    endpoint: &Endpoint,
-    sessions: &[Session],
-    moment: u64,
-    from: &Address,
-) -> Option<usize>
-    ensures { result ≡ place_of_own_unanswered endpoint.now.network moment from.now sessions.now }
-{
-    place_of_own_unanswered_on(endpoint.network(), sessions, moment, from)
 }
 
 /// The place of the connection of the node of an address that is silent for longest, if one may be
@@ -398,7 +372,7 @@ fn place_of_own(
     if !is_at_limit(sessions, own, from) {
         return None;
     }
-    let unanswered = place_of_own_unanswered_on(own, sessions, moment, from);
+    let unanswered = place_of_own_unanswered(own, sessions, moment, from);
     if once || unanswered.is_some() {
         return unanswered;
     }
@@ -423,6 +397,41 @@ fn place_of_own_in(
     place_of_own(once, endpoint.network(), endpoint, sessions, moment, from)
 }
 
+/// The place of the connection that is evicted for a request that found no link. A node that is at its
+/// limit evicts only its own connections.
+fn place_to_evict(
+    once: bool,
+    own: Network,
+    endpoint: &Endpoint,
+    sessions: &[Session],
+    moment: u64,
+    asker: &Address,
+) -> Option<usize>
+    ensures place { result ≡ place_to_free once own endpoint.now moment asker.now sessions.now }
+    ensures there { IfSome result (λ place. place < length sessions.now) }
+{
+    if is_at_limit(sessions, own, asker) {
+        place_of_own(once, own, endpoint, sessions, moment, asker)
+    } else {
+        place_of_any(once, own, endpoint, sessions, moment, asker)
+    }
+}
+
+/// `place_to_evict` for the network of the endpoint.
+fn place_in(
+    once: bool,
+    endpoint: &Endpoint,
+    sessions: &[Session],
+    moment: u64,
+    asker: &Address,
+) -> Option<usize>
+    ensures place { result
+        ≡ place_to_free once endpoint.now.network endpoint.now moment asker.now sessions.now }
+    ensures there { IfSome result (λ place. place < length sessions.now) }
+{
+    place_to_evict(once, endpoint.network(), endpoint, sessions, moment, asker)
+}
+
 /// Evicts the connection at a place, and releases its link. Returns the connection, if there is such
 /// a place.
 fn evict_at(
@@ -434,7 +443,7 @@ fn evict_at(
     requires there { IfSome place (λ place. place < length sessions.old.items) }
     ensures evicts { Evicts place endpoint.old endpoint.new sessions.old.items sessions.new.items }
     ensures one { is_some result ≡ is_some place }
-    ensures gone { IfSome place (λ place. result ≡ slice_get sessions.old.items place) }
+    ensures gone { result ≡ session_at place sessions.old.items }
     ensures network { endpoint.new.network ≡ endpoint.old.network }
     ensures room { 16 ≤ vec_capacity sessions.new }
 {
@@ -479,8 +488,8 @@ pub fn hear_session(
     }
 }
 
-/// Evicts a connection for a request from an address, and releases its link. Returns the connection,
-/// if there was one to evict.
+/// Evicts a connection for a request from an address that found no link, and releases its link: only
+/// one of its own node, if that is at its limit. Returns the connection, if there was one to evict.
 pub fn make_space(
     once: bool,
     endpoint: &mut Endpoint,
@@ -493,9 +502,8 @@ pub fn make_space(
         sessions.old.items sessions.new.items }
     ensures one { is_some result ≡ is_some (place_to_free once
         endpoint.old.network endpoint.old moment asker.now sessions.old.items) }
-    ensures gone { IfSome (place_to_free once
-        endpoint.old.network endpoint.old moment asker.now sessions.old.items)
-        (λ place. result ≡ slice_get sessions.old.items place) }
+    ensures gone { result ≡ session_at (place_to_free once endpoint.old.network endpoint.old moment
+        asker.now sessions.old.items) sessions.old.items }
     ensures room { 16 ≤ vec_capacity sessions.new }
 {
     let place = place_in(once, endpoint, sessions, moment, asker);
@@ -516,8 +524,8 @@ pub fn make_space_of_own(
         sessions.old.items) endpoint.old endpoint.new sessions.old.items sessions.new.items }
     ensures one { is_some result ≡ is_some (place_of_own once endpoint.old.network endpoint.old
         moment from.now sessions.old.items) }
-    ensures gone { IfSome (place_of_own once endpoint.old.network endpoint.old moment from.now
-        sessions.old.items) (λ place. result ≡ slice_get sessions.old.items place) }
+    ensures gone { result ≡ session_at (place_of_own once endpoint.old.network endpoint.old moment
+        from.now sessions.old.items) sessions.old.items }
     ensures network { endpoint.new.network ≡ endpoint.old.network }
     ensures room { 16 ≤ vec_capacity sessions.new }
 {

@@ -1,10 +1,10 @@
 //! The connections of a host that listens: how they are accepted, read, probed and released.
 
-ghost use Rattle.std.specs.Prelude.{◌≡◌, ◌<◌, ◌≤◌, [], ℕ, List, false, is_some, length, map, position, remove, slice_get, slice_set, vec_capacity, IfOk, IfSome, IsTrue, OnErr, OnOk, Err, Ok};
+ghost use Rattle.std.specs.Prelude.{◌≡◌, ◌<◌, ◌≤◌, [], ℕ, List, false, length, map, remove, slice_get, slice_set, vec_capacity, IfOk, IfSome, IsTrue, OnErr, OnOk, Err, Ok};
 ghost use Rattle.ipx_carrier.specs.Counting.{raised};
 ghost use Rattle.ipx_sockets.specs.Moments.{IsLoggedIfDue};
 ghost use Rattle.spx_messages.specs.EndpointView.{held_at};
-ghost use Rattle.ipx_host.specs.Sessions.{AdmitsRequest, Asks, AsksOrCounts, CountsRequest, CountsTurnedAway, CountsUnheard, OnlyEnded, KeepsHeard, KeepsOne, LetsLinkGo, MakesSpace, NotesHeard, session_of, heard_by, is_evicted_for, is_unanswered, is_own_evicted, is_own_unheard_evicted, is_silent_evicted, is_unheard_evicted_for, keeps_one_prop, place_of_own, raised_if, without};
+ghost use Rattle.ipx_host.specs.Sessions.{AdmitsRequest, Asks, AsksOrCounts, CountsRequest, CountsTurnedAway, CountsUnheard, OnlyEnded, KeepsHeard, KeepsOne, LetsLinkGo, MakesSpace, NotesHeard, SparesOthers, asker_of, session_of, heard_by, evicted_for, is_heard_one, is_unheard_one, keeps_one_prop, place_of_own, place_to_free, raised_if, session_at, without};
 ghost use Rattle.ipx_host.specs.SessionActions.{is_unheard};
 ghost use Rattle.ipx_host.specs.Hosting.{MovesSome, MovesUntilFull};
 ghost use Rattle.ipx_host.specs.ListenOutcomes.{parted, stop_in};
@@ -18,7 +18,6 @@ ghost use Rattle.ipx_host.specs.declared.listening.ListenOutcome.TheVariants as 
 
 use crate::eviction::{
     MAX_SESSIONS, ask, count_if, hear_session, hold, let_link_go, make_space, make_space_of_own,
-    place_of_own_unanswered, place_of_unanswered,
 };
 use crate::idle::{action_in, first_to_tend};
 use crate::listening::ListenOutcome;
@@ -169,23 +168,48 @@ impl Sessions {
         Ok(wrote | took)
     }
 
+    /// Counts a connection that was evicted, if there is one: as never heard from, if nothing came on
+    /// it. If something did, it is logged that it was lost.
+    fn count_evicted<R: Log>(&mut self, rt: &R, evicted: Option<Session>)
+        ensures never_heard { self.new.never_heard
+            ≡ raised_if (is_unheard_one evicted) self.old.never_heard }
+        ensures evicted { self.new.evicted ≡ raised_if (is_heard_one evicted) self.old.evicted }
+        ensures turned_away { self.new.turned_away ≡ self.old.turned_away }
+        ensures logs { (self.new.of_never_heard ≡ self.old.of_never_heard)
+            × (self.new.of_evicted ≡ self.old.of_evicted)
+            × (self.new.of_turned_away ≡ self.old.of_turned_away) }
+        ensures held { self.new.held ≡ self.old.held }
+        ensures output { self.new.output ≡ self.old.output }
+        ensures once { self.new.once ≡ self.old.once }
+    {
+        let Some(session) = evicted else {
+            return;
+        };
+        let is_unheard = session.phase.is_unheard();
+        self.never_heard = count_if(is_unheard, self.never_heard);
+        self.evicted = count_if(!is_unheard, self.evicted);
+        tell_parted(rt, &session, SessionAction::GivenUp);
+    }
+
     /// Holds a connection that was accepted at a moment if there is a free slot. Otherwise it is turned
     /// away before it is answered. If its node holds as many as it may, an unanswered or silent
     /// one of these is evicted first.
     fn admit<R: Log>(&mut self, rt: &R, endpoint: &mut Endpoint, accepted: Accepted, moment: u64)
         ensures admits { AdmitsRequest self.old.once moment accepted
             endpoint.old endpoint.new self.old.held.items self.new.held.items }
+        ensures spares { SparesOthers endpoint.old.network accepted.from
+            self.old.held.items self.new.held.items }
         // It is counted exactly if there is no slot for it.
         ensures counts { CountsTurnedAway self.old.once endpoint.old.network accepted.from
             (without (place_of_own self.old.once endpoint.old.network endpoint.old moment accepted.from
             self.old.held.items) self.old.held.items) self.old.turned_away self.new.turned_away }
-        // A connection that is evicted for it counts as never heard from if it was unanswered.
-        ensures never_heard { self.new.never_heard ≡ raised_if (is_own_unheard_evicted self.old.once
-            endpoint.old.network endpoint.old moment accepted.from self.old.held.items)
-            self.old.never_heard }
-        ensures evicted { self.new.evicted ≡ raised_if (is_own_evicted self.old.once
-            endpoint.old.network endpoint.old moment accepted.from self.old.held.items)
-            self.old.evicted }
+        // So is the connection that is evicted for it: as never heard from, if nothing came on it.
+        ensures never_heard { self.new.never_heard ≡ raised_if (is_unheard_one (session_at
+            (place_of_own self.old.once endpoint.old.network endpoint.old moment accepted.from
+            self.old.held.items) self.old.held.items)) self.old.never_heard }
+        ensures evicted { self.new.evicted ≡ raised_if (is_heard_one (session_at
+            (place_of_own self.old.once endpoint.old.network endpoint.old moment accepted.from
+            self.old.held.items) self.old.held.items)) self.old.evicted }
         ensures logs { (self.new.of_never_heard ≡ self.old.of_never_heard)
             × (self.new.of_evicted ≡ self.old.of_evicted)
             × (self.new.of_turned_away ≡ self.old.of_turned_away) }
@@ -193,13 +217,7 @@ impl Sessions {
         ensures once { self.new.once ≡ self.old.once }
     {
         let from = accepted.from;
-        let was_unanswered = place_of_own_unanswered(endpoint, &self.held, moment, &from).is_some();
         let evicted = make_space_of_own(self.once, endpoint, &mut self.held, moment, &from);
-        self.never_heard = count_if(evicted.is_some() && was_unanswered, self.never_heard);
-        self.evicted = count_if(evicted.is_some() && !was_unanswered, self.evicted);
-        if let Some(session) = evicted {
-            tell_parted(rt, &session, SessionAction::GivenUp);
-        }
         let session = Session {
             id: accepted.id,
             from,
@@ -208,6 +226,7 @@ impl Sessions {
         };
         let is_turned_away = hold(self.once, endpoint, &mut self.held, session);
         self.turned_away = count_if(is_turned_away, self.turned_away);
+        self.count_evicted(rt, evicted);
     }
 
     /// Records that a connection received something. With `once`, all other connections are
@@ -228,16 +247,18 @@ impl Sessions {
     }
 
     /// Evicts a connection, if there is one to evict, because no link was free for a request from an
-    /// address. That request is turned away.
+    /// address. A node that is at its limit evicts only its own. That request is turned away.
     fn make_space<R: Log>(&mut self, rt: &R, endpoint: &mut Endpoint, moment: u64, asker: &Address)
         ensures room { MakesSpace self.old.once moment asker.now endpoint.old endpoint.new
             self.old.held.items self.new.held.items }
-        ensures counts { self.new.never_heard
-            ≡ raised_if (is_some (position (is_unanswered moment) self.old.held.items))
-            self.old.never_heard }
-        ensures evicted { self.new.evicted ≡ raised_if (is_silent_evicted self.old.once
-            endpoint.old.network endpoint.old moment asker.now self.old.held.items)
-            self.old.evicted }
+        ensures spares { SparesOthers endpoint.old.network asker.now
+            self.old.held.items self.new.held.items }
+        ensures counts { self.new.never_heard ≡ raised_if (is_unheard_one (session_at
+            (place_to_free self.old.once endpoint.old.network endpoint.old moment asker.now
+            self.old.held.items) self.old.held.items)) self.old.never_heard }
+        ensures evicted { self.new.evicted ≡ raised_if (is_heard_one (session_at
+            (place_to_free self.old.once endpoint.old.network endpoint.old moment asker.now
+            self.old.held.items) self.old.held.items)) self.old.evicted }
         ensures turned_away { self.new.turned_away ≡ raised self.old.turned_away }
         ensures logs { (self.new.of_never_heard ≡ self.old.of_never_heard)
             × (self.new.of_evicted ≡ self.old.of_evicted)
@@ -245,13 +266,8 @@ impl Sessions {
         ensures output { self.new.output ≡ self.old.output }
         ensures once { self.new.once ≡ self.old.once }
     {
-        let is_unanswered = place_of_unanswered(&self.held, moment).is_some();
         let evicted = make_space(self.once, endpoint, &mut self.held, moment, asker);
-        self.never_heard = count_if(is_unanswered, self.never_heard);
-        self.evicted = count_if(evicted.is_some() && !is_unanswered, self.evicted);
-        if let Some(session) = evicted {
-            tell_parted(rt, &session, SessionAction::GivenUp);
-        }
+        self.count_evicted(rt, evicted);
         self.turned_away = count_if(true, self.turned_away);
     }
 
@@ -259,13 +275,16 @@ impl Sessions {
     pub fn note<R: Log>(&mut self, rt: &R, core: &mut PacedHostCore)
         ensures notes { NotesHeard self.old.once core.old core.new
             self.old.held.items self.new.held.items }
-        ensures evicted { self.new.evicted ≡ raised_if (is_evicted_for self.old.once core.old.came
-            core.old.endpoint.network core.old.endpoint core.old.moment self.old.held.items)
-            self.old.evicted }
-        // So is one that was never heard from, and it is counted as such.
-        ensures never_heard { self.new.never_heard ≡ raised_if (is_unheard_evicted_for self.old.once
+        // A node that is at its limit evicts only its own connections.
+        ensures spares { IfSome (asker_of core.old.came) (λ asker. SparesOthers
+            core.old.endpoint.network asker self.old.held.items self.new.held.items) }
+        ensures evicted { self.new.evicted ≡ raised_if (is_heard_one (evicted_for self.old.once
             core.old.came core.old.endpoint.network core.old.endpoint core.old.moment
-            self.old.held.items) self.old.never_heard }
+            self.old.held.items)) self.old.evicted }
+        // So is one that was never heard from, and it is counted as such.
+        ensures never_heard { self.new.never_heard ≡ raised_if (is_unheard_one (evicted_for
+            self.old.once core.old.came core.old.endpoint.network core.old.endpoint core.old.moment
+            self.old.held.items)) self.old.never_heard }
         ensures turned_away { CountsRequest self.old.once core.old.came core.old.endpoint.network
             core.old.endpoint core.old.moment self.old.held.items
             self.old.turned_away self.new.turned_away }

@@ -1,6 +1,6 @@
 """Who gets a slot of a listener with --once, and how long it stays, who gets one where other nodes hold all that they may, where
-its own node does, and while many requests come in its name or of another node, what comes of those that ended before their
-bytes were written, and the share of each sender if the output is read slowly, for `sites`."""
+its own node does, and while many requests come in its name or of another node, who keeps one that sent nothing yet, what comes
+of those that ended before their bytes were written, and the share of each sender if the output is read slowly, for `sites`."""
 import collections
 import itertools
 import os
@@ -37,13 +37,16 @@ STAYING, REPEATING = "127.0.1.33", "127.0.1.34"
 FORGED, FORGER, NAMED, FARTHER = "127.0.1.168", "127.0.1.169", "127.0.1.186", "00000045"
 # A listener, and a node that asks for connections at once and sends nothing for some seconds.
 PATIENT, QUIET = "127.0.1.97", "127.0.1.98"
-PLACES = [ONCE, FIRST, SECOND, SLOW, *BOTH, *HELD_ADDRESSES, STAYING, REPEATING, FORGED, FORGER, NAMED, PATIENT, QUIET]
+# A listener, two nodes that have as many connections as they may have and ask for more, and one that sent nothing yet.
+CROWDED, *OPENING = "127.0.1.19", "127.0.1.79", "127.0.1.90", "127.0.1.91"
+PLACES = [ONCE, FIRST, SECOND, SLOW, *BOTH, *HELD_ADDRESSES, STAYING, REPEATING, FORGED, FORGER, NAMED, PATIENT, QUIET, CROWDED,
+          *OPENING]
 # A sender that gets no answer ends within this number of seconds, and one that is to get through where nodes hold connections
 # within that.
 ENDS, THROUGH = 6, 15
-# The most connections of a listener, and of one node there; for how many seconds one is silent that may be evicted where all
-# are taken, and a little more.
-MOST, OF_A_NODE, SILENCE = 16, 8, 10.1
+# The most connections of a listener, of one node there, and of one node there that sent nothing yet; for how many seconds one is
+# silent that may be evicted where all are taken, and a little more.
+MOST, OF_A_NODE, UNHEARD, SILENCE = 16, 8, 4, 10.1
 # For how many seconds after that a node asks for one more connection, and gets none.
 ASKING = 1.6
 # For how many seconds more it asks where it may replace one of its own, so that a busy machine has time for that.
@@ -64,6 +67,9 @@ END, CONFIRMATION = 0xfe, 0xff
 ASKS, SYSTEM = 0x40, 0x80
 # For how many seconds a node sends nothing that answers when it is asked, and after how many seconds its answer comes.
 PATIENCE, AWAY_BY = 4.5, 0.2
+# For how many seconds nodes that have as many connections as they may have ask for more, and how often each second: one that sent
+# nothing may be evicted after 1.5 seconds, and is given up after six.
+CROWDING, CROWD = 3, 200
 # How often an end is repeated, and each how many seconds; and after how many seconds of silence the listener ends.
 TIMES, PAUSE, STAYS = 4, 2, (2.5, 4)
 # How many bytes of the slow output are read each second, for how many seconds, and the least share of each sender.
@@ -180,7 +186,11 @@ class Holder:
                 self.confirmed.add(here)
             if here not in self.accepted:
                 self.accepted[here], self.sent[here] = there, 0
-                self.send(here)
+                self.begin(here)
+
+    def begin(self, number):
+        """What is done with a connection as it is accepted."""
+        self.send(number)
 
     def send(self, number, stream=0):
         header = struct.pack(">BBHHHHH", 0x50, stream, number, self.accepted[number], self.sent[number], 0, 7)
@@ -370,6 +380,65 @@ class Patient:
 
     def end(self):
         self.holder.socket.close()
+        self.listener.end()
+
+
+class Opener(Holder):
+    """A node that sends nothing on its connections until it is told to, and does not answer when it is asked."""
+
+    def begin(self, number):
+        pass
+
+
+class Crowded:
+    """A listener of which three nodes hold all connections. The first one has as many as it may have, and sent on each. The
+    second one has as many as it may have that sent nothing. Both ask for more for CROWDING seconds. The third one also sent
+    nothing until then. In the end the first and the third speak on each, which shows which of them are still held."""
+
+    def __init__(self, sites):
+        sites.host("crowded-holders", NETWORK, CROWDED, "127.0.1.89", "4002", listed("peers", OPENING))
+        self.listener = sites.start_listener(name="crowded-holders")
+        until(self.listener.said, 5)
+        kinds = (Holder, OF_A_NODE), (Opener, UNHEARD), (Opener, UNHEARD)
+        self.holders = [kind(sites, ip, CROWDED, wanted) for (kind, wanted), ip in zip(kinds, OPENING)]
+        self.accepted = self.heard = None
+        self.thread = threading.Thread(target=self.run, daemon=True)
+        self.thread.start()
+
+    def ask(self):
+        """Each node asks for what was not accepted, the last one first. Returns whether all have all."""
+        for holder in reversed(self.holders):
+            holder.ask()
+        return all(len(holder.accepted) == len(holder.numbers) for holder in self.holders)
+
+    def run(self):
+        until(self.ask, 10)
+        self.accepted = [len(holder.accepted) for holder in self.holders]
+        start, numbers = time.monotonic(), itertools.count(0x1000)
+        while time.monotonic() < start + CROWDING:
+            number = next(numbers)
+            for holder in self.holders[:2]:
+                call(holder.socket, holder.ip, CROWDED, holder.port, number)
+            time.sleep(1 / CROWD)
+        for holder in self.holders[::2]:
+            holder.speak()
+        time.sleep(0.5)
+        self.heard = [len(holder.heard()) for holder in self.holders[::2]]
+
+    def check(self, sites):
+        """Nobody who has as many as it may have evicts one of another node."""
+        self.thread.join(20)
+        wanted = [len(holder.numbers) for holder in self.holders]
+        found = f"{self.accepted} accepted, {self.heard} acknowledged"
+        sites.check(f"where all are taken, nodes with {OF_A_NODE} connections, or {UNHEARD} that sent nothing, ask for more, and "
+                    "evict none of another node that sent nothing for 1.5 s and more",
+                    self.accepted == wanted and self.heard[1] == UNHEARD, found)
+        sites.check("nor one that spoke", self.heard[0] == OF_A_NODE, found)
+        check_line(sites, "and their requests are counted", self, AWAY)
+
+    def end(self):
+        for holder in self.holders:
+            holder.socket.close()
         self.listener.end()
 
 
@@ -618,7 +687,8 @@ def start_held(sites):
     two that go on to speak; three that hold all, of which the one with the fewest is silent, and the other one with so few asks
     for one more; two that hold all and are silent, of which one asks for one more; and two that end all before their bytes are
     written. A node that holds all that it may, and restarts; one that asks again and again; one in whose name somebody else
-    does; and one that sends nothing for some seconds. And a node that repeats its end."""
+    does; one that sends nothing for some seconds; and one that does so while two others ask for more than they may have. And a
+    node that repeats its end."""
     return {"one": Held(sites, "one", [MOST], 1, 5, 0),
             "silent": Held(sites, "silent", [OF_A_NODE + 1, OF_A_NODE], 1, 3, SILENCE + ASKING),
             "busy": Held(sites, "busy", [OF_A_NODE] * 2, 2, 3, SILENCE),
@@ -629,6 +699,7 @@ def start_held(sites):
             "flooded": Flooded(sites),
             "forged": Forged(sites),
             "patient": Patient(sites),
+            "crowded": Crowded(sites),
             "repeated": Repeated(sites)}
 
 
@@ -664,6 +735,7 @@ def check_held(sites, held):
     check_through(sites, f"a sender in whose name somebody else asks {1 / FORGING:.0f} times a second gets through",
                   held["forged"])
     held["patient"].check(sites)
+    held["crowded"].check(sites)
     for it in held.values():
         it.end()
 

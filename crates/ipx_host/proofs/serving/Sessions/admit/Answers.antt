@@ -1,10 +1,11 @@
-use Rattle.std.proofs.Common.{List, refl, subst}
+use Rattle.std.proofs.Common.{◌∙◌, List, refl, subst}
 use Rattle.std.specs.Prelude.{◌↔◌, IsTrue}
 use Rattle.ipx_wire.specs.declared.address.Network.{Network}
 use Rattle.ipx_host.specs.declared.sessions.Session.{Session}
 use Rattle.ipx_host.specs.HostOutput.{left_of}
 use Rattle.ipx_host.specs.Sessions.{HasNoPlaceFor, place_of_own, without}
 use Rattle.ipx_host.proofs.Holding.{are_without, keeps_admitted, keeps_own}
+use Rattle.ipx_host.proofs.Sparing.{spares_admitted}
 use Rattle.ipx_host.proofs.serving.Sessions.admit.Goals as goal
 
 pub invariant_of-self : goal.invariant_of-self
@@ -20,7 +21,7 @@ invariant_of-self g c =
 pub returns-clause-admits : goal.returns-clause-admits
 returns-clause-admits g c =
     let made = c.make_space_of_own-evicted in
-    (made.new.endpoint, made.new.sessions.items, made.ensures.evicts, c.hold-is_turned_away.ensures.admits)
+    rw c.count_evicted.ensures.held (made.new.endpoint, made.new.sessions.items, made.ensures.evicts, c.hold-is_turned_away.ensures.admits)
 
 pub returns-clause-counts : goal.returns-clause-counts
 returns-clause-counts g c =
@@ -31,5 +32,13 @@ returns-clause-counts g c =
     (are_without found c.args.endpoint.now made.new.endpoint old.held.items made.new.sessions.items made.ensures.evicts) c.hold-is_turned_away.ensures.turned_away in (
       c.hold-is_turned_away.result,
       subst (λ (n : Network). IsTrue c.hold-is_turned_away.result ↔ HasNoPlaceFor old.once n c.args.accepted.from (without found old.held.items)) made.ensures.network by_all,
-      c.count_if-self-3.ensures,
+      c.count_evicted.ensures.turned_away ∙ c.count_if-self.ensures,
     )
+
+pub returns-clause-spares : goal.returns-clause-spares
+returns-clause-spares g c =
+    let old = c.args.self.now in
+    let made = c.make_space_of_own-evicted in
+    rw c.count_evicted.ensures.held
+    (spares_admitted old.once c.args.moment c.args.accepted c.args.endpoint.now c.hold-is_turned_away.new.endpoint old.held.items c.hold-is_turned_away.new.sessions.items
+    (made.new.endpoint, made.new.sessions.items, made.ensures.evicts, c.hold-is_turned_away.ensures.admits))
