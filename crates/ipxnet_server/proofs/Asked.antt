@@ -1,6 +1,6 @@
 -- Who stays noted is asked.
 use Rattle.std.proofs.Common.{◌≡◌, ◌≤◌, ◌<◌, ◌+◌, ◌-◌, ℕ, zero, suc, List, [], ◌∷◌, ◌++◌, Bool, true, false, Option, Some, None, length, drop, filter, get_or, map, not, cond, arith, refl, sym, ap, subst, ◌∙◌, ltb-true}
-use Rattle.std.specs.Prelude.{All, ◌&&◌, ◌||◌, Result, Ok, Err, is_some, nat_le, nat_lt, if◌then◌else◌}
+use Rattle.std.specs.Prelude.{All, ◌&&◌, ◌||◌, Result, is_some, nat_le, nat_lt, if◌then◌else◌}
 use Rattle.std.specs.List.{list_any}
 use Rattle.std.proofs.lemmas.Bool.{and_from, and_parts, both_ways, le-leb, leb-false, leb-true, lt-ltb, ltb-false, or_left, or_parts, or_right}
 use Rattle.std.proofs.lemmas.List.Elements.{All-cons, All-drop, All-filter, All-head, All-nil, All-push, All-tail, All-weaker, filter_passes}
@@ -20,9 +20,11 @@ use Rattle.ipxnet_server.specs.Pings.{AreInOrder, asks_by, asks_in, is_asked}
 use Rattle.ipxnet_server.specs.PeerServers.{is_joined_place}
 use Rattle.ipxnet_server.specs.Restarts.{server_noting_again}
 use Rattle.ipxnet_server.specs.ServerClients.{client_at, node_of_place}
-use Rattle.ipxnet_server.specs.ServerHears.{ServerView, joined_server, makes_client, server_admitting, server_aged, server_gives, server_giving, server_hearing, server_hears, server_learned, server_met}
+use Rattle.ipxnet_server.specs.ServerFloods.{packet_gives, server_giving, server_limiting, server_unlimited, unlimited_hears}
+use Rattle.ipxnet_server.specs.ServerHears.{ServerView, joined_server, makes_client, server_admitting, server_aged, server_hearing, server_hears, server_learned, server_met}
 use Rattle.ipxnet_server.specs.ServerRuns.{Again, Datagram, NoPacket, OfCore, ServerCall, Turn, WhoStaysNotedIsAsked, call_asks, run_asks, server_after, server_run, stays_noted, time_of}
 use Rattle.ipxnet_server.proofs.Hears.{makes_new}
+use Rattle.ipxnet_server.proofs.Limits.{ReadsNoToken, giving_keeps, limiting_keeps}
 use Rattle.ipxnet_server.proofs.Once.{tails}
 use Rattle.ipxnet_server.proofs.PingTimes.{asked_later, comes_soon, follows_soon, in_turn, two_at_most}
 use Rattle.ipxnet_server.proofs.Still.{hearing_rest, new_found, one_place}
@@ -88,6 +90,12 @@ none_passes p (x ∷ xs) e =
 
 -- ---- what holds for each note after a call
 
+abbrev noted_in : ServerView → List Noted
+noted_in l = l.noted
+
+reads_noted : ReadsNoToken noted_in
+reads_noted l flooders copies limited counts = refl
+
 module _ (P : Noted → Type 0) where
   all_but : (o : Option Noted) (xs : List Noted) → All P xs → All P (noted_but o xs)
   all_but None xs all = all
@@ -130,15 +138,18 @@ module _ (P : Noted → Type 0) where
   all_met true from now l all = All-filter (λ n. not (is_noted_at from n)) P l.noted all
   all_met false from now l all = all
 
-  all_given : (given : Result Recipients ServerDrop) (l : ServerView) → All P l.noted → All P (server_giving given l).noted
-  all_given (Ok takers) l all = all
-  all_given (Err d) l all = all
+  all_given : (given : Result Recipients ServerDrop) (now : ℕ) (l : ServerView) → All P l.noted → All P (server_giving given now l).noted
+  all_given given now l all = subst (λ (noted : List Noted). All P noted) (sym (giving_keeps noted_in reads_noted given now l)) all
+
+  all_limited : (heard : Disposition) (from : SocketAddrV4) (now : ℕ) (l : ServerView) → All P l.noted → All P (server_limiting l heard from now).noted
+  all_limited heard from now l all = subst (λ (noted : List Noted). All P noted) (sym (limiting_keeps noted_in reads_noted l heard from now)) all
 
   all_heard : (l : ServerView) (from : SocketAddrV4) (p : PacketView) (size now : ℕ) → P (record { place = from; since = now; cause = Registration }) → All P (noted_left l.pinged l.noted) → All P (server_after l (Datagram from p size now)).noted
   all_heard l from p size now new all =
       let aged : ServerView = server_aged now l in
       let met : ServerView = server_met from p.header size now aged in
-      all_hearing (server_hears met from p size now) from now met (λ none apart. new) (all_met (makes_client aged from p.header size now) from now aged all)
+      all_limited (unlimited_hears l from p size now) from now (server_unlimited l from p size now)
+      (all_hearing (server_hears met from p size now) from now met (λ none apart. new) (all_met (makes_client aged from p.header size now) from now aged all))
 
   -- an address is noted again only if it is not noted
   all_last : (b room : Bool) (place : SocketAddrV4) (now : ℕ) (xs : List Noted) → is_noted place xs ≡ b → (is_noted place xs ≡ false → P (record { place = place; since = now; cause = Restart (length xs) })) → All P xs
@@ -156,7 +167,7 @@ module _ (P : Noted → Type 0) where
   all_after l (Datagram from p size now) new all = all_heard l from p size now (new from Registration) (All-filter (is_to_be_asked l.pinged) P l.noted all)
   all_after l (NoPacket fault now) new all = All-filter (is_to_be_asked l.pinged) P l.noted all
   all_after l (OfCore node header size now) new all =
-      all_given (server_gives (server_aged now l) node header size) (server_aged now l) (All-filter (is_to_be_asked l.pinged) P l.noted all)
+      all_given (packet_gives l node header size now) now (server_aged now l) (All-filter (is_to_be_asked l.pinged) P l.noted all)
   all_after l (Turn now) new all = All-filter (is_to_be_asked l.pinged) P l.noted all
   all_after l (Again place now) new all = all_again (is_some (client_at place l.clients) || is_joined_place place l.routers) place now l (λ apart. new place (Restart (length l.noted))) all
 
@@ -170,11 +181,11 @@ heard_pinged : (l : ServerView) (from : SocketAddrV4) (p : PacketView) (size now
 heard_pinged l from p size now =
     let aged : ServerView = server_aged now l in
     let met : ServerView = server_met from p.header size now aged in
-    ap (λ r. r.3) (hearing_rest (server_hears met from p size now) from now met) ∙ met_pinged (makes_client aged from p.header size now) from now aged
+    limiting_keeps (λ (v : ServerView). v.pinged) (λ k f c d n. refl) (server_unlimited l from p size now) (unlimited_hears l from p size now) from now
+    ∙ ap (λ r. r.3) (hearing_rest (server_hears met from p size now) from now met) ∙ met_pinged (makes_client aged from p.header size now) from now aged
 
-given_pinged : (given : Result Recipients ServerDrop) (l : ServerView) → (server_giving given l).pinged ≡ l.pinged
-given_pinged (Ok takers) l = refl
-given_pinged (Err d) l = refl
+given_pinged : (given : Result Recipients ServerDrop) (now : ℕ) (l : ServerView) → (server_giving given now l).pinged ≡ l.pinged
+given_pinged given now l = giving_keeps (λ (v : ServerView). v.pinged) (λ k f c d n. refl) given now l
 
 again_pinged : (b : Bool) (place : SocketAddrV4) (now : ℕ) (l : ServerView) → (if b then l else record l { noted = places_noted_again place now l.noted }).pinged ≡ l.pinged
 again_pinged true place now l = refl
@@ -221,15 +232,16 @@ due_after place by l (Datagram from p size now) due has none =
     let left : All P aged.noted = All-filter (is_to_be_asked l.pinged) P l.noted due in
     let still : is_noted place aged.noted ≡ true = still_noted place l.pinged by l.noted due has in
     let makes = makes_client aged from p.header size now in
-    let all = all_hearing P (server_hears met from p size now) from now met (not_anew makes aged from place p size now l.pinged by refl still) (all_met P makes from now aged left) in
+    let unlimited = all_hearing P (server_hears met from p size now) from now met (not_anew makes aged from place p size now l.pinged by refl still) (all_met P makes from now aged left) in
+    let all = all_limited P (unlimited_hears l from p size now) from now (server_unlimited l from p size now) unlimited in
     subst (λ (t : ℕ). All (IsDue place t by) (server_after l (Datagram from p size now)).noted) (sym (heard_pinged l from p size now)) all
 due_after place by l (NoPacket fault now) due has none = All-filter (is_to_be_asked l.pinged) (IsDue place l.pinged by) l.noted due
 due_after place by l (OfCore node header size now) due has none =
     let P = IsDue place l.pinged by in
     let aged : ServerView = server_aged now l in
-    let given : Result Recipients ServerDrop = server_gives aged node header size in
-    subst (λ (t : ℕ). All (IsDue place t by) (server_giving given aged).noted) (sym (given_pinged given aged))
-    (all_given P given aged (All-filter (is_to_be_asked l.pinged) P l.noted due))
+    let given : Result Recipients ServerDrop = packet_gives l node header size now in
+    subst (λ (t : ℕ). All (IsDue place t by) (server_giving given now aged).noted) (sym (given_pinged given now aged))
+    (all_given P given now aged (All-filter (is_to_be_asked l.pinged) P l.noted due))
 due_after place by l (Turn now) due has none =
     let P = IsDue place l.pinged by in
     let left : List Noted = noted_left l.pinged l.noted in
@@ -288,7 +300,7 @@ pinged_after : (t : ℕ) (l : ServerView) (call : ServerCall) → t ≤ time_of 
 pinged_after t l (Datagram from p size now) le early = omega (arith, le, early, heard_pinged l from p size now)
 pinged_after t l (NoPacket fault now) le early = omega (arith, le, early)
 pinged_after t l (OfCore node header size now) le early =
-    omega (arith, le, early, given_pinged (server_gives (server_aged now l) node header size) (server_aged now l))
+    omega (arith, le, early, given_pinged (packet_gives l node header size now) now (server_aged now l))
 pinged_after t l (Turn now) le early = omega arith
 pinged_after t l (Again place now) le early =
     omega (arith, le, early, again_pinged (is_some (client_at place l.clients) || is_joined_place place l.routers) place now l)
@@ -299,7 +311,7 @@ known_after t l call le known =
     let later = known_later t (time_of call) l le known in
     (pinged_after t l call le known.0, all_after P l call (λ from cause. omega arith) later.1)
 
-InLine : ℕ → List ServerCall → Type 0
+unfoldable pub InLine : ℕ → List ServerCall → Type 0
 InLine t [] = t ≤ t
 InLine t (call ∷ calls) = (t ≤ time_of call) × InLine (time_of call) calls
 
@@ -309,7 +321,7 @@ in_line t [] order = omega arith
 in_line t (call ∷ calls) order =
     (order zero (suc zero) t (omega arith) (omega arith), in_line (time_of call) calls (tails (λ (a b : ℕ). a ≤ b) t (map time_of (call ∷ calls)) order))
 
-from_start : (calls : List ServerCall) → AreInOrder (map time_of calls) → InLine 0 calls
+pub from_start : (calls : List ServerCall) → AreInOrder (map time_of calls) → InLine 0 calls
 unfolding InLine
 from_start [] order = omega arith
 from_start (call ∷ calls) order = (omega arith, in_line (time_of call) calls order)

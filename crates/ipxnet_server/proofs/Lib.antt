@@ -1,4 +1,5 @@
 pub mod Hears
+pub mod Limits
 pub mod Once
 pub mod Still
 pub mod Remains
@@ -8,3 +9,4 @@ pub mod PingTimes
 pub mod Notes
 pub mod Asked
 pub mod Apart
+pub mod FloodTimes

@@ -1,25 +1,23 @@
 -- Who is a client has shown its node.
 use Rattle.std.proofs.Common.{◌≡◌, ◌+◌, ◌-◌, ℕ, zero, suc, List, [], ◌∷◌, ◌++◌, Bool, true, false, Option, Some, None, length, drop, filter, find, not, cond, refl, sym, ap, subst, ◌∙◌}
-use Rattle.std.specs.Prelude.{◌&&◌, ◌||◌, Result, Ok, Err, is_some, if◌then◌else◌}
+use Rattle.std.specs.Prelude.{◌&&◌, ◌||◌, is_some, if◌then◌else◌}
 use Rattle.std.specs.List.{list_any}
 use Rattle.std.specs.Option.{option_or}
 use Rattle.std.specs.Str.{bytes_eq}
 use Rattle.std.specs.declared.net.socket_addr.SocketAddrV4.{SocketAddrV4}
 use Rattle.std.proofs.lemmas.List.Folds.{find-append}
 use Rattle.ipx_wire.specs.Ipx.{PacketView}
-use Rattle.ipx_wire.specs.declared.ipx.packet.IpxHeader.{IpxHeader}
 use Rattle.ipxnet_server.specs.declared.clients.Client.{Client}
 use Rattle.ipxnet_server.specs.declared.disposition.Disposition.{Disposition}
-use Rattle.ipxnet_server.specs.declared.drops.ServerDrop.{ServerDrop}
-use Rattle.ipxnet_server.specs.declared.recipients.Recipients.{Recipients}
 use Rattle.ipxnet_server.specs.declared.port.ServerPort.{ServerPort}
-use Rattle.ipxnet_server.specs.ServerClients.{are_one_place, client_at, client_that_goes, clients_but, clients_heard, clients_moved, clients_with, forgotten_after, is_client_at, new_client, node_of_place, was_heard_within}
-use Rattle.ipxnet_server.specs.ServerHears.{ServerView, is_of_client, makes_client, server_admitting, server_aged, server_giving, server_gives, server_hearing, server_hears, server_met, stranger_drop}
+use Rattle.ipxnet_server.specs.ServerClients.{are_one_place, client_at, client_that_goes, clients_but, clients_moved, forgotten_after, is_client_at, new_client, node_of_place, was_heard_within}
+use Rattle.ipxnet_server.specs.ServerFloods.{packet_gives, server_unlimited, unlimited_hears}
+use Rattle.ipxnet_server.specs.ServerHears.{ServerView, is_of_client, makes_client, server_admitting, server_aged, server_hearing, server_hears, server_met}
 use Rattle.ipxnet_server.specs.NotedPlaces.{places_noted_again}
 use Rattle.ipxnet_server.specs.PeerServers.{is_joined_place}
 use Rattle.ipxnet_server.specs.ServerRuns.{Again, ClientsShowedTheirNodes, Datagram, NoPacket, OfCore, ServerCall, Turn, server_after, server_run, shows_node}
 use Rattle.ipxnet_server.proofs.Hears.{found_finds, shows_it}
-use Rattle.ipxnet_server.proofs.Once.{same_place}
+use Rattle.ipxnet_server.proofs.Limits.{giving_keeps, limiting_keeps}
 use Rattle.ipxnet_server.proofs.Still.{hearing_clients, hearing_rest, one_place, others_clients}
 
 -- ---- who is found in a part is found in the whole
@@ -115,14 +113,6 @@ met_by true l from place p size now makes has =
     (subst (λ (q : SocketAddrV4). bytes_eq p.header.from.node.0 (node_of_place l.port q).0 ≡ true) same node)))
     (or_last test (drop n kept) d has)
 
-gives_clients : (given : Result Recipients ServerDrop) (l : ServerView) → (server_giving given l).clients ≡ l.clients
-gives_clients (Ok takers) l = refl
-gives_clients (Err d) l = refl
-
-gives_port : (given : Result Recipients ServerDrop) (l : ServerView) → (server_giving given l).port ≡ l.port
-gives_port (Ok takers) l = refl
-gives_port (Err d) l = refl
-
 again_clients : (b : Bool) (from : SocketAddrV4) (now : ℕ) (l : ServerView) → (if b then l else record l { noted = places_noted_again from now l.noted }).clients ≡ l.clients
 again_clients true from now l = refl
 again_clients false from now l = refl
@@ -139,14 +129,18 @@ after_has l (Datagram from p size now) place has =
     let aged : ServerView = server_aged now l in
     let met : ServerView = server_met from p.header size now aged in
     let heard : Disposition = server_hears met from p size now in
-    let there : is_some (client_at place met.clients) ≡ true = hearing_has (is_of_client heard) heard from place now met refl has in
+    let unlimited : ServerView = server_unlimited l from p size now in
+    let same : unlimited.clients ≡ (server_after l (Datagram from p size now)).clients =
+    sym (limiting_keeps (λ (v : ServerView). v.clients) (λ k f c d n. refl) unlimited (unlimited_hears l from p size now) from now) in
+    let there : is_some (client_at place met.clients) ≡ true =
+    hearing_has (is_of_client heard) heard from place now met refl (ap (λ (known : List Client). is_some (client_at place known)) same ∙ has) in
     let shown = shows_node l.port place (Datagram from p size now) in
     split (is_some (client_at place aged.clients)) shown (λ e. left (is_some (client_at place l.clients)) shown (aged_has now place l e))
     (right (is_some (client_at place l.clients)) shown) (met_by (makes_client aged from p.header size now) aged from place p size now refl there)
 after_has l (NoPacket fault now) place has = left (is_some (client_at place l.clients)) false (aged_has now place l has)
 after_has l (OfCore node header size now) place has =
     left (is_some (client_at place l.clients)) false
-    (aged_has now place l (sym (ap (λ (known : List Client). is_some (client_at place known)) (gives_clients (server_gives (server_aged now l) node header size) (server_aged now l))) ∙ has))
+    (aged_has now place l (sym (ap (λ (known : List Client). is_some (client_at place known)) (giving_keeps (λ (v : ServerView). v.clients) (λ k f c d n. refl) (packet_gives l node header size now) now (server_aged now l))) ∙ has))
 after_has l (Turn now) place has = left (is_some (client_at place l.clients)) false (aged_has now place l has)
 after_has l (Again from now) place has =
     left (is_some (client_at place l.clients)) false
@@ -160,9 +154,11 @@ after_port : (l : ServerView) (call : ServerCall) → (server_after l call).port
 after_port l (Datagram from p size now) =
     let aged : ServerView = server_aged now l in
     let met : ServerView = server_met from p.header size now aged in
-    ap (λ r. r.0) (hearing_rest (server_hears met from p size now) from now met) ∙ met_port (makes_client aged from p.header size now) from now aged
+    limiting_keeps (λ (v : ServerView). v.port) (λ k f c d n. refl) (server_unlimited l from p size now) (unlimited_hears l from p size now) from now
+    ∙ ap (λ r. r.0) (hearing_rest (server_hears met from p size now) from now met) ∙ met_port (makes_client aged from p.header size now) from now aged
 after_port l (NoPacket fault now) = refl
-after_port l (OfCore node header size now) = gives_port (server_gives (server_aged now l) node header size) (server_aged now l)
+after_port l (OfCore node header size now) =
+    giving_keeps (λ (v : ServerView). v.port) (λ k f c d n. refl) (packet_gives l node header size now) now (server_aged now l)
 after_port l (Turn now) = refl
 after_port l (Again from now) = again_port (is_some (client_at from l.clients) || is_joined_place from l.routers) from now l
 

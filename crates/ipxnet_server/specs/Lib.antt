@@ -3,9 +3,12 @@ pub mod AskTimes
 pub mod NotedPlaces
 pub mod Pings
 pub mod PeerServers
+pub mod Flooders
 pub mod ServerHears
 pub mod Restarts
+pub mod ServerFloods
 pub mod ServerRuns
+pub mod FloodRuns
 pub mod JoinedLearns
 pub mod ServerCounted
 pub mod ServerInside

@@ -2,7 +2,7 @@
 use Rattle.std.specs.Prelude.{ℕ, ◌+◌, ◌-◌, ◌^◌, min}
 use Rattle.ipxnet_server.specs.declared.counts.ServerCounts.{ServerCounts}
 use Rattle.ipxnet_server.specs.declared.drops.ServerDrop.{ServerDrop}
-use Rattle.ipxnet_server.specs.declared.drops.ServerDrop.TheVariants.{Malformed, NodeTaken, FullOfAddress, Full, Unregistered, OtherSource, TooLong, NoSuchNode, ToItself, PingElsewhere, BroadcastElsewhere, FromElsewhere, Response, NotBehind, ForElsewhere}
+use Rattle.ipxnet_server.specs.declared.drops.ServerDrop.TheVariants.{Malformed, NodeTaken, FullOfAddress, Full, Unregistered, OtherSource, TooLong, NoSuchNode, ToItself, PingElsewhere, BroadcastElsewhere, FromElsewhere, Response, NotBehind, ForElsewhere, RateLimited, Busy}
 
 -- a count of 64 bits goes up by one, and stays at the greatest
 abbrev pub drops_raised : ℕ → ℕ
@@ -27,6 +27,8 @@ drop_counted Response c = record c { response = drops_raised c.response }
 drop_counted (NotBehind node) c = record c { not_behind = drops_raised c.not_behind }
 drop_counted (ForElsewhere network) c =
     record c { for_elsewhere = drops_raised c.for_elsewhere }
+drop_counted (RateLimited place) c = record c { rate_limited = drops_raised c.rate_limited }
+drop_counted Busy c = record c { busy = drops_raised c.busy }
 
 -- nothing was dropped yet
 abbrev pub no_drops : ServerCounts
@@ -46,4 +48,6 @@ no_drops = record {
   response = 0;
   not_behind = 0;
   for_elsewhere = 0;
+  rate_limited = 0;
+  busy = 0;
 }

@@ -18,8 +18,13 @@ use Rattle.ipxnet_server.specs.declared.disposition.Disposition.TheVariants.{Reg
 use Rattle.ipxnet_server.specs.declared.recipients.Recipients.{Recipients}
 use Rattle.ipxnet_server.specs.declared.recipients.Recipients.TheVariants.{Nobody, One, Others, All, Here, Joined, JoinedAt}
 use Rattle.ipxnet_server.specs.declared.peer_servers.RemoteClient.{RemoteClient}
+use Rattle.ipxnet_server.specs.declared.flooders.Flooder.{Flooder}
+use Rattle.ipxnet_server.specs.declared.limiting.LimitedFlood.{LimitedFlood}
 use Rattle.ipxnet_server.specs.declared.noted.Noted.{Noted}
 use Rattle.ipxnet_server.specs.declared.port.ServerPort.{ServerPort}
+use Rattle.token_bucket.specs.declared.bucket.RateLimit.{RateLimit}
+use Rattle.token_bucket.specs.declared.bucket.TokenBucket.{TokenBucket}
+use Rattle.token_bucket.specs.TokenBucket.{full_bucket}
 use Rattle.ipxnet_server.specs.ServerClients.{are_one_place, is_address_full, is_server_full, client_at, client_of_node, clients_heard, clients_left, clients_with, node_of_place}
 use Rattle.ipxnet_server.specs.ServerCounted.{drop_counted, no_drops}
 use Rattle.ipxnet_server.specs.PeerServers.{remote_client_of, remote_clients_heard, remote_clients_left, is_joined_place}
@@ -28,7 +33,8 @@ use Rattle.ipxnet_server.specs.NotedPlaces.{noted_left, noted_without, places_no
 
 -- a server: its port, the most clients that it may have, its clients in the order in which they were last
 -- heard, and its counts. Also the addresses of joined routers, and their clients, when its clients were pinged
--- the last time, and who registered, has shown nothing yet, and is still to be pinged
+-- the last time, and who registered, has shown nothing yet, and is still to be pinged. Then the tokens for what
+-- is for all: the clients that miss some of theirs, those of the port, and which client was limited last
 pub record ServerView : Type 0 where
   pub port : ServerPort
   pub most : ℕ
@@ -38,6 +44,9 @@ pub record ServerView : Type 0 where
   pub far : List RemoteClient
   pub pinged : ℕ
   pub noted : List Noted
+  pub flooders : List Flooder
+  pub copies : TokenBucket
+  pub limited : Option LimitedFlood
 
 -- the socket of registrations and pings, and the most bytes that a client accepts
 abbrev pub server_socket : ℕ
@@ -435,11 +444,6 @@ server_hearing (ToJoined takers) from now l = server_knowing from now l
 server_hearing (FromJoined told takers) from now l = server_learned told from now l
 server_hearing (Dropped drop) from now l = server_dropping drop l
 
--- a packet of the core is sent to these, or dropped
-abbrev pub server_giving : Result Recipients ServerDrop → ServerView → ServerView
-server_giving (Ok takers) l = l
-server_giving (Err drop) l = server_dropping drop l
-
 -- silent clients are pinged
 abbrev pub server_pinging : ℕ → ServerView → ServerView
 server_pinging now l = record (server_aged now l) { pinged = now }
@@ -448,7 +452,11 @@ server_pinging now l = record (server_aged now l) { pinged = now }
 abbrev pub is_ping_due : ServerView → ℕ → Bool
 is_ping_due l now = is_one_pinged l.pinged l.clients now || is_one_asked l.pinged l.noted now
 
--- no client is known yet
+-- what passes of the copies of all floods of a port
+abbrev pub copies_limit : RateLimit
+copies_limit = record { burst = 200000; per_second = 100000 }
+
+-- no client is known yet, and all tokens are there
 abbrev pub joined_server : ServerPort → ℕ → List SocketAddrV4 → ServerView
 joined_server port most routers = record {
   port = port;
@@ -459,6 +467,9 @@ joined_server port most routers = record {
   far = [];
   pinged = 0;
   noted = [];
+  flooders = [];
+  copies = full_bucket copies_limit;
+  limited = None;
 }
 
 abbrev pub new_server : ServerPort → ℕ → ServerView

@@ -14,7 +14,8 @@ use Rattle.ipxnet_server.specs.AskTimes.{first_ask}
 use Rattle.ipxnet_server.specs.Pings.{AreInOrder, is_asked}
 use Rattle.ipxnet_server.specs.Restarts.{server_noting_again}
 use Rattle.ipxnet_server.specs.ServerClients.{are_one_place, client_at, node_of_place}
-use Rattle.ipxnet_server.specs.ServerHears.{ServerView, joined_server, server_aged, server_dropping, server_gives, server_giving, server_hearing, server_hears, server_met, server_pinging}
+use Rattle.ipxnet_server.specs.ServerFloods.{packet_gives, server_giving, server_heard}
+use Rattle.ipxnet_server.specs.ServerHears.{ServerView, joined_server, server_aged, server_dropping, server_pinging}
 
 -- a call: a datagram from an address that is a packet, in so many bytes; one that is none; a packet of the core for
 -- a node; a turn of pings; and an address that was that of a client before a restart. Each is at a time
@@ -27,12 +28,10 @@ pub data ServerCall : Type 0 where
 
 -- the server after a call, as the clauses of `hear`, `give`, `begin_pings` and `note_again` say
 abbrev pub server_after : ServerView → ServerCall → ServerView
-server_after l (Datagram from p size now) =
-    server_hearing (server_hears (server_met from p.header size now (server_aged now l)) from p size now) from now
-    (server_met from p.header size now (server_aged now l))
+server_after l (Datagram from p size now) = server_heard l from p size now
 server_after l (NoPacket fault now) = server_dropping (Malformed fault) (server_aged now l)
 server_after l (OfCore node header size now) =
-    server_giving (server_gives (server_aged now l) node header size) (server_aged now l)
+    server_giving (packet_gives l node header size now) now (server_aged now l)
 server_after l (Turn now) = server_pinging now l
 server_after l (Again place now) = server_noting_again place now l
 

@@ -24,6 +24,8 @@ pub struct ServerCounts {
     pub response: u64,
     pub not_behind: u64,
     pub for_elsewhere: u64,
+    pub rate_limited: u64,
+    pub busy: u64,
 }
 
 /// Adds one to a count, which stays at the greatest u64.
@@ -54,6 +56,8 @@ impl ServerCounts {
             response: 0,
             not_behind: 0,
             for_elsewhere: 0,
+            rate_limited: 0,
+            busy: 0,
         }
     }
 
@@ -79,6 +83,8 @@ impl ServerCounts {
             ServerDrop::Response => saturating_increment(&mut self.response),
             ServerDrop::NotBehind(_) => saturating_increment(&mut self.not_behind),
             ServerDrop::ForElsewhere(_) => saturating_increment(&mut self.for_elsewhere),
+            ServerDrop::RateLimited(_) => saturating_increment(&mut self.rate_limited),
+            ServerDrop::Busy => saturating_increment(&mut self.busy),
         }
     }
 }

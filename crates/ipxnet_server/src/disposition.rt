@@ -2,7 +2,8 @@
 
 ghost use Rattle.std.specs.Prelude.{◌≡◌, [], IfSome, is_some};
 ghost use Rattle.ipx_wire.specs.Ipx.{IsIpx, packet_of};
-ghost use Rattle.ipxnet_server.specs.ServerHears.{IsAnswer, answer_of, goes_to_core, takers_of};
+ghost use Rattle.ipxnet_server.specs.ServerFloods.{is_client_flood};
+ghost use Rattle.ipxnet_server.specs.ServerHears.{IsAnswer, answer_of, goes_to_core, is_of_client, takers_of};
 
 use crate::drops::ServerDrop;
 use crate::recipients::Recipients;
@@ -89,5 +90,29 @@ impl Disposition {
             | Disposition::FromJoined(_, _)
             | Disposition::Dropped(_) => None,
         }
+    }
+
+    /// Whether a client sent it.
+    fn is_of_client(self) -> bool
+        ensures { result ≡ is_of_client self }
+    {
+        match self {
+            Disposition::Pinged(_, _)
+            | Disposition::ToClient(_)
+            | Disposition::ToOthers(_)
+            | Disposition::ToOthersAndCore(_)
+            | Disposition::ToCore
+            | Disposition::Heard
+            | Disposition::ToJoined(_) => true,
+            Disposition::Registered(_) | Disposition::FromJoined(_, _) | Disposition::Dropped(_) =>
+                false,
+        }
+    }
+
+    /// Whether it is a flood of a client.
+    pub(crate) fn is_client_flood(self) -> bool
+        ensures { result ≡ is_client_flood self }
+    {
+        self.is_of_client() && self.takers().is_flood()
     }
 }

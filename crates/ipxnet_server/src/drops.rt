@@ -1,6 +1,7 @@
 //! Why something is dropped.
 
 use ipx_wire::{IpxFault, Network, Node};
+use std::net::SocketAddrV4;
 use thiserror::Error;
 
 /// Why a received datagram, or a packet of the core, is dropped.
@@ -58,4 +59,11 @@ pub enum ServerDrop {
     /// It is from a joined router, and for another network, which is the value.
     #[error("a joined server sent to network {0}")]
     ForElsewhere(Network),
+    /// It is a flood of a client that has no token: a packet for all nodes here, or for a node that
+    /// nobody has here, which goes to all joined routers. The value is the client's address.
+    #[error("too many broadcasts of a client")]
+    RateLimited(SocketAddrV4),
+    /// It is a flood, whoever sent it, and the port has too few tokens for its copies.
+    #[error("too many copies of broadcasts")]
+    Busy,
 }

@@ -7,7 +7,8 @@ ghost use Rattle.ipx_wire.specs.declared.ipx.packet.IpxHeader.{IpxHeader};
 ghost use Rattle.std.specs.declared.net.socket_addr.SocketAddrV4.{SocketAddrV4};
 ghost use Rattle.ipxnet_server.specs.declared.recipients.Recipients.TheVariants.{One};
 ghost use Rattle.ipxnet_server.specs.ServerClients.{client_at};
-ghost use Rattle.ipxnet_server.specs.ServerHears.{is_from_server, is_joined_taker, server_aged, server_gives, server_giving};
+ghost use Rattle.ipxnet_server.specs.ServerFloods.{packet_gives, server_giving};
+ghost use Rattle.ipxnet_server.specs.ServerHears.{is_from_server, is_joined_taker, server_aged, server_gives};
 
 use crate::drops::ServerDrop;
 use crate::hearing::{
@@ -21,14 +22,15 @@ impl IpxnetServer {
     /// Which clients and joined routers a packet of the core for a node is sent to, or why it is
     /// dropped. The time `now` is in ms. A packet for all nodes that is for the socket of RIP or
     /// SAP is sent to nobody. One that comes from the network of the port is sent to no joined
-    /// router. It allocates no memory.
+    /// router. One for all of them is dropped if the port has too few tokens for the copies. It
+    /// allocates no memory.
     pub fn give(&mut self, node: Node, packet: &[u8], now: u64) -> Result<Recipients, ServerDrop>
         // Who gets it, if the bytes begin with a packet, and if they are none.
-        ensures packet { (p : PacketView) → BeginsWith packet.now p → result ≡ server_gives
-            (server_aged now self.old) node (Some p.header) (length packet.now) }
+        ensures packet { (p : PacketView) → BeginsWith packet.now p
+            → result ≡ packet_gives self.old node (Some p.header) (length packet.now) now }
         ensures malformed { (f : IpxFault) → ipx_fault packet.now ≡ Some f
-            → result ≡ server_gives (server_aged now self.old) node None (length packet.now) }
-        ensures server { self.new ≡ server_giving result (server_aged now self.old) }
+            → result ≡ packet_gives self.old node None (length packet.now) now }
+        ensures server { self.new ≡ server_giving result now (server_aged now self.old) }
         // The one client that it goes to is known.
         ensures taker { (place : SocketAddrV4) → result ≡ Ok (One place)
             → is_some (client_at place self.new.clients) ≡ true }
@@ -40,11 +42,9 @@ impl IpxnetServer {
     {
         self.age(now);
         let takers = self.takers(node, header_of(packet), packet.len());
-        match takers {
-            Ok(_) => {}
-            Err(drop) => self.counts.count(drop),
-        }
-        takers
+        let given = self.limit_given(takers, now);
+        self.keep_given(given, now);
+        given
     }
 
     /// Which clients and joined routers a packet of the core, with this header and of `size` bytes,

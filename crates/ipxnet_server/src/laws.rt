@@ -1,6 +1,7 @@
-//! Laws on what joined servers learn, on who is noted, and on who is pinged how often. They do
-//! nothing.
+//! Laws on what joined servers learn, on who is noted, on who is pinged how often, and on how often
+//! a client floods. They do nothing.
 
+ghost use Rattle.ipxnet_server.specs.FloodRuns.{ClientsFloodSeldom};
 ghost use Rattle.ipxnet_server.specs.JoinedLearns.{NoGivenPacketShowsAClient};
 ghost use Rattle.ipxnet_server.specs.NotedPlaces.{RegistrationsKeepOtherNotes};
 ghost use Rattle.ipxnet_server.specs.Pings.{AsksAreLate, AsksAreTwo, OnlySilentArePinged, PingsAreSeldom};
@@ -57,4 +58,10 @@ pub fn restart_asks_are_apart()
 /// from its address with that node as its source.
 pub fn clients_showed_their_nodes()
     ensures { ClientsShowedTheirNodes }
+{}
+
+/// From one time to another, at most 256 floods of a client are passed on, and 128 more for each
+/// second between the two, in any course of calls.
+pub fn clients_flood_seldom()
+    ensures { ClientsFloodSeldom }
 {}

@@ -16,10 +16,12 @@ mod clients;
 mod counts;
 mod disposition;
 mod drops;
+mod flooders;
 mod giving;
 mod hearing;
 mod judging;
 mod laws;
+mod limiting;
 mod noted;
 mod peer_servers;
 mod pinging;
@@ -42,10 +44,11 @@ pub use disposition::Disposition;
 pub use drops::ServerDrop;
 pub use hearing::{MAX_CLIENT_BYTES, SERVER_SOCKET};
 pub use laws::{
-    asks_are_late, asks_are_two, clients_showed_their_nodes, no_given_packet_shows_a_client,
-    only_silent_clients_are_pinged, pings_are_seldom, registrations_keep_other_notes,
-    restart_asks_are_apart, who_stays_noted_is_asked,
+    asks_are_late, asks_are_two, clients_flood_seldom, clients_showed_their_nodes,
+    no_given_packet_shows_a_client, only_silent_clients_are_pinged, pings_are_seldom,
+    registrations_keep_other_notes, restart_asks_are_apart, who_stays_noted_is_asked,
 };
+pub use limiting::LimitedFlood;
 pub use noted::{MAX_ADDRESS_NOTED, MAX_NOTED, Noted};
 pub use peer_servers::{MAX_REMOTE_CLIENTS, REMOTE_FORGOTTEN_AFTER_MS, RemoteClient};
 pub use pings::{PING_PERIOD_MS, PingTurn, sooner};

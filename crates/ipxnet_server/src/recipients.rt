@@ -1,6 +1,7 @@
 //! The clients and joined routers that bytes go to.
 
 ghost use Rattle.std.specs.Prelude.{◌≡◌};
+ghost use Rattle.ipxnet_server.specs.ServerFloods.{is_flood};
 ghost use Rattle.ipxnet_server.specs.ServerHears.{is_joined_taker, is_taker};
 
 use std::net::SocketAddrV4;
@@ -51,6 +52,17 @@ impl Recipients {
             Recipients::JoinedAt(one) => one == place,
             Recipients::Nobody | Recipients::One(_) | Recipients::All | Recipients::Here(_) =>
                 false,
+        }
+    }
+
+    /// Whether bytes for these are a flood: for all clients, or for all joined routers.
+    pub(crate) fn is_flood(self) -> bool
+        ensures { result ≡ is_flood self }
+    {
+        match self {
+            Recipients::Others(_) | Recipients::All | Recipients::Here(_) | Recipients::Joined =>
+                true,
+            Recipients::Nobody | Recipients::One(_) | Recipients::JoinedAt(_) => false,
         }
     }
 }

@@ -14,6 +14,7 @@ ghost use Rattle.ipxnet_server.specs.ServerClients.{AreFewOfEachIp, EachClientOn
 ghost use Rattle.ipxnet_server.specs.ServerHears.{IsAnswer, answer_of, goes_to_core, is_joined_taker, is_of_client, is_registration, is_taker};
 ghost use Rattle.ipxnet_server.specs.ServerHears.{joined_server, server_admitting, server_aged, server_dropping, server_hearing, server_knowing, server_learned, server_met, server_noting};
 ghost use Rattle.ipxnet_server.specs.ServerHears.{server_hears, may_reach_core, new_server, takers_join, takers_of, takers_reach};
+ghost use Rattle.ipxnet_server.specs.ServerFloods.{packet_hears, server_heard};
 ghost use Rattle.ipxnet_server.specs.ServerInside.{IsSoundHearing, MayKnow};
 ghost use Rattle.ipxnet_server.specs.PeerServers.{is_joined_place, max_remote_clients};
 ghost use Rattle.ipxnet_server.specs.NotedPlaces.{AreFewNotesOfEachIp, max_noted};
@@ -23,7 +24,9 @@ use crate::clients::{Client, Clients, MAX_CLIENTS};
 use crate::counts::ServerCounts;
 use crate::disposition::Disposition;
 use crate::drops::ServerDrop;
+use crate::flooders::Flooders;
 use crate::hearing::header_of;
+use crate::limiting::{COPIES_LIMIT, LimitedFlood};
 use crate::noted::{Noted, NotedPlaces};
 use crate::peer_servers::{Joined, RemoteClient};
 use crate::port::ServerPort;
@@ -32,6 +35,7 @@ use ipx_wire::{Node, decode};
 use std::alloc::{AllocError, Global};
 use std::marker::Model;
 use std::net::SocketAddrV4;
+use token_bucket::TokenBucket;
 
 /// An ipxnet server: it registers clients and forwards packets between them. It may be joined to
 /// the servers of other routers.
@@ -43,6 +47,9 @@ pub struct IpxnetServer {
     pub(crate) joined: Joined,
     pub(crate) pinged: u64,
     pub(crate) noted: NotedPlaces,
+    pub(crate) flooders: Flooders,
+    pub(crate) copies: TokenBucket,
+    pub(crate) limited: Option<LimitedFlood>,
 }
 
 impl Model for IpxnetServer {
@@ -61,6 +68,9 @@ impl Model for IpxnetServer {
       far = l.joined.far;
       pinged = l.pinged;
       noted = l.noted;
+      flooders = l.flooders;
+      copies = l.copies;
+      limited = l.limited;
     } };
 
     ghost invariant = { λ l. All (HasPlaceNode l.port) l.clients.known };
@@ -100,6 +110,7 @@ impl IpxnetServer {
         let clients = Clients::new(alloc, most)?;
         let joined = Joined::new(alloc, routers)?;
         let noted = NotedPlaces::new(alloc)?;
+        let flooders = Flooders::new(alloc)?;
         Ok(IpxnetServer {
             port,
             clients,
@@ -107,6 +118,9 @@ impl IpxnetServer {
             joined,
             pinged: 0,
             noted,
+            flooders,
+            copies: TokenBucket::full(COPIES_LIMIT),
+            limited: None,
         })
     }
 
@@ -287,18 +301,17 @@ impl IpxnetServer {
     /// Call it with each datagram. First send the answer to that address. Then send the bytes, as
     /// they arrived, to each client and joined router among the takers. A registration changes no
     /// client. A dropped datagram changes only the count of its cause, unless it makes its sender a
-    /// client. Each call forgets the clients that were silent for five minutes.
+    /// client, or is a flood over a limit, whose sender was heard. Each call forgets the clients that
+    /// were silent for five minutes.
     pub fn hear(&mut self, from: SocketAddrV4, bytes: &[u8], now: u64) -> Disposition
         // What becomes of it, if the bytes are no packet, and if they begin with one.
         ensures malformed { (f : IpxFault) → ipx_fault bytes.now ≡ Some f
             → result ≡ Dropped (Malformed f) }
         ensures packet { (p : PacketView) → BeginsWith bytes.now p
-            → result ≡ server_hears (server_met from p.header (length bytes.now) now
-            (server_aged now self.old)) from p (length bytes.now) now }
+            → result ≡ packet_hears self.old from p (length bytes.now) now }
         // What the server is then. A packet finds its sender among the clients, if it makes it one.
         ensures server { (p : PacketView) → BeginsWith bytes.now p
-            → self.new ≡ server_hearing result from now (server_met from p.header (length bytes.now)
-            now (server_aged now self.old)) }
+            → self.new ≡ server_heard self.old from p (length bytes.now) now }
         ensures unread { (f : IpxFault) → ipx_fault bytes.now ≡ Some f
             → self.new ≡ server_dropping (Malformed f) (server_aged now self.old) }
         ensures stays { (self.new.port ≡ self.old.port) × (self.new.most ≡ self.old.most)
@@ -345,6 +358,6 @@ impl IpxnetServer {
         self.meet(from, bytes, now);
         let heard = self.judge(from, bytes, now);
         self.keep(heard, from, now);
-        heard
+        self.limit(heard, from, now)
     }
 }

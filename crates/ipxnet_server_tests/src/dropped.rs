@@ -142,6 +142,11 @@ fn texts(rt: HostRuntime) -> Result<(), Fail> {
             ServerDrop::Response,
             "a client advertised routes or services",
         ),
+        (
+            ServerDrop::RateLimited(first_place()),
+            "too many broadcasts of a client",
+        ),
+        (ServerDrop::Busy, "too many copies of broadcasts"),
     ];
     for (drop, wanted) in rows {
         let text = format!(in rt.alloc(); "{drop}")?;

@@ -13,6 +13,8 @@ mod dropped;
 #[cfg(test)]
 mod fixture;
 #[cfg(test)]
+mod floods;
+#[cfg(test)]
 mod giving;
 #[cfg(test)]
 mod joined;
