@@ -1,5 +1,5 @@
 -- What stays of ports with ipxnet servers as a server receives or sends.
-use Rattle.std.proofs.Common.{◌≡◌, ℕ, Bool, true, false, List, [], ◌∷◌, ◌++◌, Option, Some, None, Result, Ok, Err, cond, filter, length, map, ap, refl, sym, ◌∙◌, subst}
+use Rattle.std.proofs.Common.{◌≡◌, ℕ, Bool, true, false, List, [], ◌∷◌, ◌++◌, Option, Some, Result, Ok, Err, cond, filter, length, map, ap, refl, sym, ◌∙◌, subst}
 use Rattle.std.specs.Prelude.{◌&&◌, IfOk, is_some, if◌then◌else◌, nat_lt, slice_get, slice_set}
 use Rattle.std.specs.Str.{bytes_eq}
 use Rattle.std.proofs.Math.Seq.{map-set_same}
@@ -17,8 +17,10 @@ use Rattle.ipxnet_server.specs.declared.port.ServerPort.{ServerPort}
 use Rattle.ipxnet_server.specs.declared.recipients.Recipients.{Recipients}
 use Rattle.ipxnet_server.specs.declared.recipients.Recipients.TheVariants.{Nobody}
 use Rattle.ipxnet_server.specs.ServerClients.{client_at, client_of_node}
-use Rattle.ipxnet_server.specs.ServerHears.{ServerView, all_get, client_gets, is_from_server, is_joined_taker, is_taker, is_to_service, server_aged, server_gives, server_giving, max_client_bytes, takers_join, takers_of, takers_reach}
+use Rattle.ipxnet_server.specs.ServerFloods.{limited_gives, packet_gives, server_giving}
+use Rattle.ipxnet_server.specs.ServerHears.{ServerView, all_get, client_gets, is_from_server, is_joined_taker, is_taker, is_to_service, server_aged, server_gives, max_client_bytes, takers_join, takers_of, takers_reach}
 use Rattle.ipxnet_server.specs.PeerServers.{is_joined_place}
+use Rattle.ipxnet_server.proofs.Limits.{given_limited}
 use Rattle.ipx_carrier.specs.declared.port_driver.PacketSent.{PacketSent}
 use Rattle.ipx_carrier.specs.PortDrivers.{copies_count, count_in}
 use Rattle.ipx_carrier.specs.Turns.{Given}
@@ -31,9 +33,9 @@ use Rattle.ipx_ipxnet_ports.proofs.Handing.{hands_after}
 abbrev port_in : ServerView → ServerPort × ℕ
 port_in l = (l.port, l.most)
 
-giving_stays : (given : Result Recipients ServerDrop) (l : ServerView) → port_in (server_giving given l) ≡ port_in l
-giving_stays (Ok takers) l = refl
-giving_stays (Err drop) l = refl
+giving_stays : (given : Result Recipients ServerDrop) (now : ℕ) (l : ServerView) → port_in (server_giving given now l) ≡ port_in l
+giving_stays (Ok takers) now l = refl
+giving_stays (Err drop) now l = refl
 
 ports_stay : (servers : List ServerView) (port : ℕ) (l after : ServerView) → slice_get servers port ≡ Some l → port_in after ≡ port_in l → map port_in (slice_set servers port after) ≡ map port_in servers
 ports_stay servers port l after there same =
@@ -45,7 +47,7 @@ hearing_leaves_ports now most d came room up old new r =
 
 pub sending_leaves_ports : (now port : ℕ) (node : Node) (packet : List ℕ) (sent : PacketSent) (old new : ServersView) → SendsThroughServer now port node packet sent old new → server_ports new.servers ≡ server_ports old.servers
 sending_leaves_ports now port node packet sent old new r =
-    ap (map port_in) r.servers ∙ ports_stay old.servers port r.server r.after r.at_port (ap port_in r.becomes ∙ giving_stays r.given (server_aged now r.server))
+    ap (map port_in) r.servers ∙ ports_stay old.servers port r.server r.after r.at_port (ap port_in r.becomes ∙ giving_stays r.given now (server_aged now r.server))
 
 -- ---- what `send` returns for a packet follows from its copies
 
@@ -99,6 +101,10 @@ none_reached l (c ∷ cs) =
 
 -- ---- what the core advertises or asks to all nodes by RIP and SAP is sent to nobody
 
+limited_to_nobody : (l : ServerView) (given : Result Recipients ServerDrop) (now : ℕ) → takers_given given ≡ Nobody → takers_given (limited_gives l given now) ≡ Nobody
+limited_to_nobody l given now nobody =
+    given_limited (λ (g : Result Recipients ServerDrop). takers_given g ≡ Nobody) l given now (λ drop. refl) nobody
+
 given_to_nobody : (long broad : Bool) (drop : ServerDrop) (to_service : Bool) (rest : Result Recipients ServerDrop) → broad ≡ true → to_service ≡ true → takers_given (if long then Err drop else if broad then Ok (all_get to_service) else rest) ≡ Nobody
 given_to_nobody true broad drop to_service rest e f = refl
 given_to_nobody false true drop true rest e f = refl
@@ -108,11 +114,12 @@ given_to_nobody false false drop to_service rest e f = cc
 is_broadcast : (node : List ℕ) → node ≡ broadcast_node → bytes_eq node broadcast_node ≡ true
 is_broadcast node e = ap (λ (n : List ℕ). bytes_eq n broadcast_node) e ∙ refl
 
-pub told_to_nobody : (port : ℕ) (packet : List ℕ) (l after : ServerView) (node : Node) (p : PacketView) (given : Result Recipients ServerDrop) → is_to_service p.header ≡ true → node.0 ≡ broadcast_node
-    → given ≡ server_gives l node (Some p.header) (length packet) → packet_sends port packet after (takers_given given) ≡ []
-told_to_nobody port packet l after node p given asks all is =
+pub told_to_nobody : (port now : ℕ) (packet : List ℕ) (old after : ServerView) (node : Node) (p : PacketView) (given : Result Recipients ServerDrop) → is_to_service p.header ≡ true → node.0 ≡ broadcast_node
+    → given ≡ packet_gives old node (Some p.header) (length packet) now → packet_sends port packet after (takers_given given) ≡ []
+told_to_nobody port now packet old after node p given asks all is =
+    let l : ServerView = server_aged now old in
     let nobody : takers_given given ≡ Nobody =
-    ap takers_given is ∙ given_to_nobody (nat_lt max_client_bytes (length packet)) (bytes_eq node.0 broadcast_node) (TooLong (length packet)) (is_to_service p.header) (client_gets l node (is_from_server l.port p.header) (client_of_node node l.clients)) (is_broadcast node.0 all) asks in
+    ap takers_given is ∙ limited_to_nobody l (server_gives l node (Some p.header) (length packet)) now (given_to_nobody (nat_lt max_client_bytes (length packet)) (bytes_eq node.0 broadcast_node) (TooLong (length packet)) (is_to_service p.header) (client_gets l node (is_from_server l.port p.header) (client_of_node node l.clients)) (is_broadcast node.0 all) asks) in
     let first : relayed_to port packet (clients_reached after Nobody) ≡ [] = ap (relayed_to port packet) (none_reached after after.clients) in
     let second : relayed_on port packet (routers_reached after Nobody) ≡ [] = ap (relayed_on port packet) (none_joined after Nobody after.routers (λ place. refl)) in
     ap (packet_sends port packet after) nobody ∙ ap (λ (ds : List PlaceDatagram). ds ++ relayed_on port packet (routers_reached after Nobody)) first ∙ second

@@ -16,7 +16,8 @@ use Rattle.ipxnet_server.specs.declared.port.ServerPort.{ServerPort}
 use Rattle.ipxnet_server.specs.declared.recipients.Recipients.{Recipients}
 use Rattle.ipxnet_server.specs.declared.recipients.Recipients.TheVariants.{Nobody}
 use Rattle.ipxnet_server.specs.ServerClients.{EachClientOnce, client_at}
-use Rattle.ipxnet_server.specs.ServerHears.{IsAnswer, ServerView, answer_of, goes_to_core, is_from_server, is_of_client, is_ping_due, is_taker, is_to_service, router_ping, server_aged, server_dropping, server_gives, server_giving, server_hearing, server_hears, server_met, server_pinging, max_client_bytes, takers_join, takers_of, takers_reach}
+use Rattle.ipxnet_server.specs.ServerFloods.{packet_gives, packet_hears, server_giving, server_heard}
+use Rattle.ipxnet_server.specs.ServerHears.{IsAnswer, ServerView, answer_of, goes_to_core, is_from_server, is_of_client, is_ping_due, is_taker, is_to_service, router_ping, server_aged, server_dropping, server_pinging, max_client_bytes, takers_join, takers_of, takers_reach}
 use Rattle.ipxnet_server.specs.PeerServers.{is_joined_place}
 use Rattle.ipxnet_server.specs.Pings.{is_asked, is_pinged}
 use Rattle.ipxnet_server.specs.declared.noted.Noted.{Noted}
@@ -83,10 +84,8 @@ pub record HearsBytes (l : ServerView) (from : SocketAddrV4) (bytes : List ℕ) 
   pub malformed : (f : IpxFault) → ipx_fault bytes ≡ Some f → heard ≡ Dropped (Malformed f)
   pub unread : (f : IpxFault) → ipx_fault bytes ≡ Some f
       → after ≡ server_dropping (Malformed f) (server_aged now l)
-  pub packet : (p : PacketView) → BeginsWith bytes p → heard
-      ≡ server_hears (server_met from p.header (length bytes) now (server_aged now l)) from p (length bytes) now
-  pub becomes : (p : PacketView) → BeginsWith bytes p → after
-      ≡ server_hearing heard from now (server_met from p.header (length bytes) now (server_aged now l))
+  pub packet : (p : PacketView) → BeginsWith bytes p → heard ≡ packet_hears l from p (length bytes) now
+  pub becomes : (p : PacketView) → BeginsWith bytes p → after ≡ server_heard l from p (length bytes) now
   pub stays : (after.port ≡ l.port) × (after.most ≡ l.most) × (after.routers ≡ l.routers)
       × (after.pinged ≡ l.pinged)
 
@@ -185,9 +184,9 @@ packet_sends port packet l takers = relayed_to port packet (clients_reached l ta
 -- who gets bytes of the core for a node, if they are no packet, and if they begin with one
 pub record GivesBytes (l : ServerView) (node : Node) (bytes : List ℕ) (now : ℕ) (given : Result Recipients ServerDrop) : Type 0 where
   pub malformed : (f : IpxFault) → ipx_fault bytes ≡ Some f
-      → given ≡ server_gives (server_aged now l) node None (length bytes)
+      → given ≡ packet_gives l node None (length bytes) now
   pub packet : (p : PacketView) → BeginsWith bytes p
-      → given ≡ server_gives (server_aged now l) node (Some p.header) (length bytes)
+      → given ≡ packet_gives l node (Some p.header) (length bytes) now
 
 -- a packet of the core for a node is sent, as it is, to each of the clients that the server of its port says.
 -- Each of these has one address. It is also sent to each of the joined routers. What the server refuses is
@@ -199,7 +198,7 @@ pub record SendsThroughServer (now port : ℕ) (node : Node) (packet : List ℕ)
   pub given : Result Recipients ServerDrop
   pub at_port : slice_get old.servers port ≡ Some server
   pub gives : GivesBytes server node packet now given
-  pub becomes : after ≡ server_giving given (server_aged now server)
+  pub becomes : after ≡ server_giving given now (server_aged now server)
   pub gone : HandsOver (packet_sends port packet after (takers_given given)) []
       old.traffic new.traffic old.failed new.failed
   pub quiet : (p : PacketView) → BeginsWith packet p → is_to_service p.header ≡ true

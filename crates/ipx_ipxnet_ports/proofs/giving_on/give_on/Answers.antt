@@ -1,4 +1,4 @@
-use Rattle.ipx_ipxnet_ports.specs.OnServers.{answer_for, clients_reached, relayed_on, relayed_to, routers_reached}
+use Rattle.ipx_ipxnet_ports.specs.OnServers.{answer_for, clients_reached, relayed_to}
 use Rattle.ipx_ipxnet_ports.proofs.Handing.{hands_both}
 use Rattle.ipx_ipxnet_ports.proofs.giving_on.give_on.Goals as goal
 

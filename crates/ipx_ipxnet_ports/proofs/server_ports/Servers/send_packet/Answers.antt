@@ -3,7 +3,6 @@ use Rattle.std.specs.Prelude.{slice_set}
 use Rattle.std.proofs.lemmas.Option.{slice_get_read}
 use Rattle.ipx_ipxnet_ports.specs.OnServers.{clients_reached, relayed_on, relayed_to, routers_reached, takers_given}
 use Rattle.ipx_ipxnet_ports.proofs.Handing.{hands_both}
-use Rattle.ipxnet_server.specs.ServerHears.{server_aged}
 use Rattle.ipx_ipxnet_ports.proofs.Steady.{kept_from_routers, relays_joined, relays_known, told_to_nobody}
 use Rattle.ipx_ipxnet_ports.proofs.server_ports.Servers.send_packet.Goals as goal
 use Rattle.ipx_ipxnet_ports.proofs.server_ports.Servers.send_packet.Goals.{in-Ok, in-Err}
@@ -30,7 +29,7 @@ returns-clause-sent g c =
       gives = record { malformed = c.give.ensures.malformed; packet = c.give.ensures.packet };
       becomes = c.give.ensures.server;
       gone = rw takers (hands_both (relayed_to port packet (clients_reached after given_to)) (relayed_on port packet (routers_reached after given_to)) _ _ _ _ _ _ c.send_to_clients.ensures.gone c.send_to_routers.ensures.gone);
-      quiet = λ p begins asks all. told_to_nobody port packet (server_aged c.args.self.now.moment server) after c.args.node p given asks all (c.give.ensures.packet p begins);
+      quiet = λ p begins asks all. told_to_nobody port c.args.self.now.moment packet server after c.args.node p given asks all (c.give.ensures.packet p begins);
       own = λ p begins here. kept_from_routers port packet after given (c.give.ensures.own p begins here);
       once = c.send_to_clients.ensures.once;
       known = relays_known port packet after (takers_given given);

@@ -1,5 +1,5 @@
 use Rattle.std.proofs.Common.{◌≡◌, ◌+◌, ◌∙◌, ℕ, suc, arith, refl, subst}
-use Rattle.ipx_ipxnet_ports.specs.OnServers.{PingsAtServer, PingsAtServers, ServersView, servers_view}
+use Rattle.ipx_ipxnet_ports.specs.OnServers.{PingsAtServer, PingsAtServers, ServersView}
 use Rattle.ipx_ipxnet_ports.proofs.server_ports.Servers.send_pings.Goals as goal
 
 -- one more server pings
