@@ -177,14 +177,14 @@ met_pinged : (b : Bool) (from : SocketAddrV4) (now : ℕ) (l : ServerView) → (
 met_pinged true from now l = refl
 met_pinged false from now l = refl
 
-heard_pinged : (l : ServerView) (from : SocketAddrV4) (p : PacketView) (size now : ℕ) → (server_after l (Datagram from p size now)).pinged ≡ l.pinged
+pub heard_pinged : (l : ServerView) (from : SocketAddrV4) (p : PacketView) (size now : ℕ) → (server_after l (Datagram from p size now)).pinged ≡ l.pinged
 heard_pinged l from p size now =
     let aged : ServerView = server_aged now l in
     let met : ServerView = server_met from p.header size now aged in
     limiting_keeps (λ (v : ServerView). v.pinged) (λ k f c d n. refl) (server_unlimited l from p size now) (unlimited_hears l from p size now) from now
     ∙ ap (λ r. r.3) (hearing_rest (server_hears met from p size now) from now met) ∙ met_pinged (makes_client aged from p.header size now) from now aged
 
-given_pinged : (given : Result Recipients ServerDrop) (now : ℕ) (l : ServerView) → (server_giving given now l).pinged ≡ l.pinged
+pub given_pinged : (given : Result Recipients ServerDrop) (now : ℕ) (l : ServerView) → (server_giving given now l).pinged ≡ l.pinged
 given_pinged given now l = giving_keeps (λ (v : ServerView). v.pinged) (λ k f c d n. refl) given now l
 
 again_pinged : (b : Bool) (place : SocketAddrV4) (now : ℕ) (l : ServerView) → (if b then l else record l { noted = places_noted_again place now l.noted }).pinged ≡ l.pinged

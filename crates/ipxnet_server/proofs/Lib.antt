@@ -10,3 +10,4 @@ pub mod Notes
 pub mod Asked
 pub mod Apart
 pub mod FloodTimes
+pub mod Little

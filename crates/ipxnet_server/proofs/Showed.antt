@@ -124,7 +124,15 @@ again_port false from now l = refl
 aged_has : (now : ℕ) (place : SocketAddrV4) (l : ServerView) → is_some (client_at place (server_aged now l).clients) ≡ true → is_some (client_at place l.clients) ≡ true
 aged_has now place l has = of_kept (is_client_at place) (was_heard_within forgotten_after now) l.clients has
 
-after_has : (l : ServerView) (call : ServerCall) (place : SocketAddrV4) → is_some (client_at place (server_after l call).clients) ≡ true → (is_some (client_at place l.clients) || shows_node l.port place call) ≡ true
+pub met_has : (l : ServerView) (from : SocketAddrV4) (p : PacketView) (size now : ℕ) (place : SocketAddrV4) → is_some (client_at place (server_met from p.header size now (server_aged now l)).clients) ≡ true
+    → (is_some (client_at place l.clients) || shows_node l.port place (Datagram from p size now)) ≡ true
+met_has l from p size now place there =
+    let aged : ServerView = server_aged now l in
+    let shown = shows_node l.port place (Datagram from p size now) in
+    split (is_some (client_at place aged.clients)) shown (λ e. left (is_some (client_at place l.clients)) shown (aged_has now place l e))
+    (right (is_some (client_at place l.clients)) shown) (met_by (makes_client aged from p.header size now) aged from place p size now refl there)
+
+pub after_has : (l : ServerView) (call : ServerCall) (place : SocketAddrV4) → is_some (client_at place (server_after l call).clients) ≡ true → (is_some (client_at place l.clients) || shows_node l.port place call) ≡ true
 after_has l (Datagram from p size now) place has =
     let aged : ServerView = server_aged now l in
     let met : ServerView = server_met from p.header size now aged in
@@ -134,9 +142,7 @@ after_has l (Datagram from p size now) place has =
     sym (limiting_keeps (λ (v : ServerView). v.clients) (λ k f c d n. refl) unlimited (unlimited_hears l from p size now) from now) in
     let there : is_some (client_at place met.clients) ≡ true =
     hearing_has (is_of_client heard) heard from place now met refl (ap (λ (known : List Client). is_some (client_at place known)) same ∙ has) in
-    let shown = shows_node l.port place (Datagram from p size now) in
-    split (is_some (client_at place aged.clients)) shown (λ e. left (is_some (client_at place l.clients)) shown (aged_has now place l e))
-    (right (is_some (client_at place l.clients)) shown) (met_by (makes_client aged from p.header size now) aged from place p size now refl there)
+    met_has l from p size now place there
 after_has l (NoPacket fault now) place has = left (is_some (client_at place l.clients)) false (aged_has now place l has)
 after_has l (OfCore node header size now) place has =
     left (is_some (client_at place l.clients)) false
@@ -150,7 +156,7 @@ met_port : (b : Bool) (from : SocketAddrV4) (now : ℕ) (l : ServerView) → (if
 met_port true from now l = refl
 met_port false from now l = refl
 
-after_port : (l : ServerView) (call : ServerCall) → (server_after l call).port ≡ l.port
+pub after_port : (l : ServerView) (call : ServerCall) → (server_after l call).port ≡ l.port
 after_port l (Datagram from p size now) =
     let aged : ServerView = server_aged now l in
     let met : ServerView = server_met from p.header size now aged in

@@ -9,6 +9,7 @@ pub mod Restarts
 pub mod ServerFloods
 pub mod ServerRuns
 pub mod FloodRuns
+pub mod Unshown
 pub mod JoinedLearns
 pub mod ServerCounted
 pub mod ServerInside

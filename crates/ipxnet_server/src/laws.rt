@@ -1,5 +1,5 @@
-//! Laws on what joined servers learn, on who is noted, on who is pinged how often, and on how often
-//! a client floods. They do nothing.
+//! Laws on what joined servers learn, on who is noted, on who is pinged how often, on how often
+//! a client floods, and on what a stranger gets. They do nothing.
 
 ghost use Rattle.ipxnet_server.specs.FloodRuns.{ClientsFloodSeldom};
 ghost use Rattle.ipxnet_server.specs.JoinedLearns.{NoGivenPacketShowsAClient};
@@ -7,6 +7,7 @@ ghost use Rattle.ipxnet_server.specs.NotedPlaces.{RegistrationsKeepOtherNotes};
 ghost use Rattle.ipxnet_server.specs.Pings.{AsksAreLate, AsksAreTwo, OnlySilentArePinged, PingsAreSeldom};
 ghost use Rattle.ipxnet_server.specs.Restarts.{RestartAsksAreApart};
 ghost use Rattle.ipxnet_server.specs.ServerRuns.{ClientsShowedTheirNodes, WhoStaysNotedIsAsked};
+ghost use Rattle.ipxnet_server.specs.Unshown.{WhoShowsNothingGetsLittle};
 
 /// A joined server takes no packet of the core of another router for one of that router's clients.
 pub fn no_given_packet_shows_a_client()
@@ -64,4 +65,10 @@ pub fn clients_showed_their_nodes()
 /// second between the two, in any course of calls.
 pub fn clients_flood_seldom()
     ensures { ClientsFloodSeldom }
+{}
+
+/// An address from which no datagram shows its node gets at most three datagrams for each
+/// registration from there, whoever forged these, in any course of calls of a new server.
+pub fn who_shows_nothing_gets_little()
+    ensures { WhoShowsNothingGetsLittle }
 {}
