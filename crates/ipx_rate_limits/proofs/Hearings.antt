@@ -3,24 +3,24 @@ use Rattle.std.proofs.Common.{◌≡◌, ◌≤◌, ◌<◌, inl, inr, ◌∙◌
 use Rattle.std.proofs.lemmas.Bool.Decides.{nat_tests}
 use Rattle.ipx_rate_limits.specs.declared.querier.Querier.{Querier}
 use Rattle.ipx_rate_limits.specs.declared.node_buckets.Asking.{Asking}
-use Rattle.ipx_rate_limits.specs.TokenBucket.{back_after, has_token}
+use Rattle.token_bucket.specs.TokenBucket.{back_after, has_tokens}
 use Rattle.ipx_rate_limits.specs.TokenBuckets.{TokenBucketsView, back_at, with_token_taken}
 use Rattle.ipx_rate_limits.specs.RateLimiter.{HearsRateLimited, RateLimiterView}
 use Rattle.ipx_rate_limits.specs.QueryRate.{AreSuch, Coming, Course, IsHeardOf}
 use Rattle.ipx_rate_limits.proofs.Taken.{back_at_grows, back_at_own}
 
-has_own : (back now : ℕ) → has_token 8 back now ≡ true → back ≤ now + 7000
+has_own : (back now : ℕ) → has_tokens 8 1 back now ≡ true → back ≤ now + 7000
 has_own back now h = grind (arith, nat_tests)
 
 -- a querier's tokens after another querier, or the same one, took one
 grows : (t : TokenBucketsView) (who o : Querier) (now : ℕ) → back_at t.queriers o ≤ max (back_at (with_token_taken t who now).queriers o) now
 grows t who o now =
-    let x = back_after (back_at t.queriers who) now in
+    let x = back_after 1 (back_at t.queriers who) now in
     let more : back_at t.queriers who ≤ x = omega arith in
     back_at_grows who o now x t.queriers more
 
 own : (t : TokenBucketsView) (who : Querier) (now : ℕ) → back_at (with_token_taken t who now).queriers who ≡ max (back_at t.queriers who) now + 1000
-own t who now = back_at_own who now (back_after (back_at t.queriers who) now) t.queriers
+own t who now = back_at_own who now (back_after 1 (back_at t.queriers who) now) t.queriers
 
 module _ {C : Type 0} (hears : C → ℕ → List ℕ → ℕ → C → Type 0) where
   -- whatever comes

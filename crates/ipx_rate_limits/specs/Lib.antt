@@ -1,4 +1,3 @@
-pub mod TokenBucket
 pub mod PortBuckets
 pub mod TokenBuckets
 pub mod DirectedBroadcasts

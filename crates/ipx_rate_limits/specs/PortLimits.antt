@@ -6,11 +6,11 @@ use Rattle.ipx_config.specs.declared.site.Directed.TheVariants.{Never, Few, Alwa
 use Rattle.ipx_config.specs.declared.site.Kind.{Kind}
 use Rattle.ipx_config.specs.declared.site.Kind.TheVariants as Of
 use Rattle.ipx_config.specs.declared.site.PortConfig.{PortConfig}
-use Rattle.ipx_rate_limits.specs.declared.token_bucket.RateLimit.{RateLimit}
-use Rattle.ipx_rate_limits.specs.declared.token_bucket.TokenBucket.{TokenBucket}
+use Rattle.token_bucket.specs.declared.bucket.RateLimit.{RateLimit}
+use Rattle.token_bucket.specs.declared.bucket.TokenBucket.{TokenBucket}
 use Rattle.ipx_rate_limits.specs.PortBuckets.{never}
 use Rattle.ipx_config.specs.PortKinds.{directed_of_kind, kind_of_port}
-use Rattle.ipx_rate_limits.specs.TokenBucket.{full_bucket}
+use Rattle.token_bucket.specs.TokenBucket.{full_bucket}
 
 -- the usual limits of a port, the second one for narrow queries
 abbrev pub usual : RateLimit

@@ -4,8 +4,8 @@
 use Rattle.std.specs.Prelude.{◌≡◌, ◌≤◌, ◌⊎◌, ℕ, ◌+◌, ◌-◌, ◌*◌, ◌/◌, List, [], ◌∷◌, Some}
 use Rattle.ipx_rate_limits.specs.declared.directed_broadcast.DirectedBroadcast.{DirectedBroadcast}
 use Rattle.ipx_rate_limits.specs.declared.querier.Querier.{Querier}
-use Rattle.ipx_rate_limits.specs.declared.token_bucket.RateLimit.{RateLimit}
-use Rattle.ipx_rate_limits.specs.declared.token_bucket.TokenBucket.{TokenBucket}
+use Rattle.token_bucket.specs.declared.bucket.TokenBucket.{TokenBucket}
+use Rattle.token_bucket.specs.TokenBucket.{most_in}
 use Rattle.ipx_rate_limits.specs.PortBuckets.{at_port}
 use Rattle.ipx_rate_limits.specs.TokenBuckets.{node_narrow, own_tokens}
 use Rattle.ipx_rate_limits.specs.RateLimiter.{HearsDirected, HearsNarrowWithToken, HearsWithToken, HearsRateLimited, RateLimiterView}
@@ -23,10 +23,6 @@ abbrev pub AreSuch : {C : Type 0} → (Coming C → Type 0) → List (Coming C) 
 AreSuch Is [] n = n ≡ 0
 AreSuch Is (c ∷ rest) n =
     (Is c × (m : ℕ) × (n ≡ m + 1) × AreSuch Is rest m) ⊎ ((Is c → ⊥) × AreSuch Is rest n)
-
--- the most that a limit lets pass from one time to another, in milliseconds
-abbrev pub most_in : RateLimit → ℕ → ℕ → ℕ
-most_in limit a b = limit.burst + limit.per_second * (b - a) / 1000
 
 module _ {C : Type 0} (hears : C → ℕ → List ℕ → ℕ → C → Type 0) where
   -- they come one after another, at times that do not go back, from this time and this core on. What else

@@ -5,9 +5,9 @@ use Rattle.ipx_router.specs.Classify.{is_node}
 use Rattle.ipx_rate_limits.specs.declared.node_buckets.Asking.{Asking}
 use Rattle.ipx_rate_limits.specs.declared.port_buckets.PortBuckets.{PortBuckets}
 use Rattle.ipx_rate_limits.specs.declared.querier.Querier.{Querier}
-use Rattle.ipx_rate_limits.specs.declared.token_bucket.RateLimit.{RateLimit}
+use Rattle.token_bucket.specs.declared.bucket.RateLimit.{RateLimit}
 use Rattle.ipx_rate_limits.specs.PortBuckets.{at_port, narrow_has, query_has, with_narrow_taken, with_query_taken}
-use Rattle.ipx_rate_limits.specs.TokenBucket.{back_after, has_token}
+use Rattle.token_bucket.specs.TokenBucket.{back_after, has_tokens}
 
 -- how many tokens a querier has, of which one comes back each second, and how many queriers are remembered at
 -- most
@@ -53,7 +53,7 @@ fresh_buckets ports = record { queriers = []; narrow = []; ports = ports }
 -- of those that are remembered, one with so many tokens has one. Few enough others have missing tokens that it
 -- can be remembered
 pub record MayAsk (burst : ℕ) (known : List Asking) (who : Querier) (now : ℕ) : Type 0 where
-  pub own : has_token burst (back_at known who) now ≡ true
+  pub own : has_tokens burst 1 (back_at known who) now ≡ true
   pub few : count_by (is_another_out who now) known < max_askers
 
 -- a querier has a token: one of its own, and one of its port
@@ -69,7 +69,7 @@ pub record HasNarrowToken (t : TokenBucketsView) (who : Querier) (now : ℕ) : T
 -- it took one of its own. Queriers with all their tokens are forgotten
 abbrev pub asked_by : Querier → ℕ → List Asking → List Asking
 asked_by who now queriers = filter (is_another_out who now) queriers
-    ++ record { querier = who; back = back_after (back_at queriers who) now } ∷ []
+    ++ record { querier = who; back = back_after 1 (back_at queriers who) now } ∷ []
 
 -- it took one of its port too
 abbrev pub with_token_taken : TokenBucketsView → Querier → ℕ → TokenBucketsView

@@ -11,7 +11,6 @@ mod port_limits;
 mod querier;
 mod query_rate;
 mod rate_limiter;
-mod token_bucket;
 mod token_buckets;
 
 pub use directed_broadcast::{DirectedBroadcast, DirectedDrops, directed_broadcast_in};
@@ -23,5 +22,4 @@ pub use query_rate::{
     port_query_rate_is_bounded, query_rate_is_bounded,
 };
 pub use rate_limiter::RateLimiter;
-pub use token_bucket::{RateLimit, TokenBucket};
 pub use token_buckets::TokenBuckets;

@@ -4,9 +4,9 @@ ghost use Rattle.std.specs.Prelude.{◌≡◌, ◌<◌, ◌^◌, ◌↔◌, [], 
 ghost use Rattle.ipx_rate_limits.specs.TokenBuckets.{MayAsk, asked_by, back_at, is_another_out};
 
 use crate::querier::Querier;
-use crate::token_bucket::{full_again_at, is_token_there};
 use std::alloc::{AllocError, Global};
 use std::marker::Model;
+use token_bucket::{are_tokens_there, full_again_at};
 
 /// A known querier, and the time at which all its tokens are back.
 #[derive(Clone, Copy)]
@@ -77,22 +77,22 @@ impl NodeBuckets {
     }
 
     /// Whether a querier that may have `burst` tokens has one, and can be remembered.
-    pub fn may_ask(&self, burst: u16, querier: Querier, now: u128) -> bool
+    pub fn may_ask(&self, burst: u32, querier: Querier, now: u128) -> bool
         requires { now < 2 ^ 80 }
         ensures { IsTrue result ↔ MayAsk burst self.now querier now }
     {
-        is_token_there(u128::from(burst), self.back_of(querier), now)
+        are_tokens_there(u128::from(burst), 1, self.back_of(querier), now)
             && self.others(querier, now) < MAX_ASKERS
     }
 
     /// Takes a token of a querier, which must have one. It remembers when all its tokens are back
     /// then, and forgets queriers with all theirs.
-    pub fn take_token(&mut self, burst: u16, querier: Querier, now: u128)
+    pub fn take_token(&mut self, burst: u32, querier: Querier, now: u128)
         requires asks { MayAsk burst self.old querier now }
         requires fits { now < 2 ^ 80 }
         ensures { self.new ≡ asked_by querier now self.old }
     {
-        let back = full_again_at(u128::from(burst), self.back_of(querier), now);
+        let back = full_again_at(u128::from(burst), 1, self.back_of(querier), now);
         self.known.retain(|known| is_another(querier, now, known));
         self.known.push_reserved(Asking { querier, back });
     }

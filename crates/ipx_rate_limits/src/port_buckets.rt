@@ -4,7 +4,7 @@ ghost use Rattle.std.specs.Prelude.{◌≡◌, true};
 ghost use Rattle.ipx_rate_limits.specs.PortBuckets.{at_port, directed_has, directed_taken, has_groups, narrow_has, narrow_taken, query_has, query_taken, with_directed_taken, with_narrow_taken, with_query_taken};
 ghost use Rattle.ipx_rate_limits.specs.TokenBuckets.{node_narrow};
 
-use crate::token_bucket::TokenBucket;
+use token_bucket::TokenBucket;
 
 /// What is limited at a port.
 #[derive(Clone, Copy, PartialEq, Eq)]
@@ -25,21 +25,21 @@ impl PortBuckets {
         requires { query_has self.old now ≡ true }
         ensures { self.new ≡ query_taken now self.old }
     {
-        self.queries.take_token(now);
+        self.queries.take_tokens(1, now);
     }
 
     fn take_narrow(&mut self, now: u64)
         requires { narrow_has self.old now ≡ true }
         ensures { self.new ≡ narrow_taken now self.old }
     {
-        self.narrow.take_token(now);
+        self.narrow.take_tokens(1, now);
     }
 
     fn has_directed(&self, now: u64) -> bool
         ensures { result ≡ directed_has self.now now }
     {
         match &self.directed {
-            Some(bucket) => bucket.has_token(now),
+            Some(bucket) => bucket.has_tokens(1, now),
             None => true,
         }
     }
@@ -49,7 +49,7 @@ impl PortBuckets {
         ensures { self.new ≡ directed_taken now self.old }
     {
         if let Some(bucket) = &mut self.directed {
-            bucket.take_token(now);
+            bucket.take_tokens(1, now);
         }
     }
 }
@@ -59,7 +59,7 @@ pub fn has_query(ports: &[PortBuckets], port: usize, now: u64) -> bool
     ensures { result ≡ query_has (at_port ports.now port) now }
 {
     match ports.get(port) {
-        Some(buckets) => buckets.queries.has_token(now),
+        Some(buckets) => buckets.queries.has_tokens(1, now),
         None => false,
     }
 }
@@ -85,7 +85,7 @@ pub fn take_query(ports: &mut [PortBuckets], port: usize, now: u64)
 }
 
 /// How many tokens for narrow queries one node at a port has: half of those of the port.
-pub fn narrow_burst(ports: &[PortBuckets], port: usize) -> u16
+pub fn narrow_burst(ports: &[PortBuckets], port: usize) -> u32
     ensures { result ≡ (node_narrow (at_port ports.now port)).burst }
 {
     match ports.get(port) {
@@ -99,7 +99,7 @@ pub fn has_narrow(ports: &[PortBuckets], port: usize, now: u64) -> bool
     ensures { result ≡ narrow_has (at_port ports.now port) now }
 {
     match ports.get(port) {
-        Some(buckets) => buckets.narrow.has_token(now),
+        Some(buckets) => buckets.narrow.has_tokens(1, now),
         None => false,
     }
 }

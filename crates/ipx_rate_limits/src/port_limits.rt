@@ -4,9 +4,9 @@ ghost use Rattle.std.specs.Prelude.{◌≡◌, IfOk};
 ghost use Rattle.ipx_rate_limits.specs.PortLimits.{buckets_of_port, directed_bucket, has_group_nodes, limits_of, narrow_limit, query_limit};
 
 use crate::port_buckets::PortBuckets;
-use crate::token_bucket::{RateLimit, TokenBucket};
 use ipx_config::{Directed, Kind, PortConfig};
 use std::alloc::{AllocError, Global};
+use token_bucket::{RateLimit, TokenBucket};
 
 /// The usual limit of a port, for general queries and for directed broadcasts.
 const USUAL: RateLimit = RateLimit {

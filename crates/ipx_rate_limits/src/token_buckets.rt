@@ -14,7 +14,7 @@ use std::alloc::{AllocError, Global};
 use std::marker::Model;
 
 /// How many tokens for general queries each node has. One comes back each second.
-const OWN_TOKENS: u16 = 8;
+const OWN_TOKENS: u32 = 8;
 
 /// How many tokens for narrow queries come back to each node in a second.
 const NARROW_PER_SECOND: u128 = 2;
