@@ -24,7 +24,7 @@ use Rattle.ipx_site.specs.SiteMarks.{DifferInMarks}
 use Rattle.ipx_sockets.specs.SourceFilter.{drops_in}
 use Rattle.ipx_site.specs.SiteCore.{SiteCore}
 use Rattle.ipx_site.specs.EthernetTotals.{encapsulated_otherwise_in, unframed_in}
-use Rattle.ipx_site.specs.IpxnetTotals.{full_in, full_of_address_in}
+use Rattle.ipx_site.specs.IpxnetTotals.{busy_in, full_in, full_of_address_in, rate_limited_in}
 use Rattle.ipxnet_server.specs.ServerHears.{ServerView}
 
 -- how often each cause occurred, by what the three kinds of ports say of it
@@ -47,6 +47,8 @@ of_parts totals core kept refused faults switches unknown_senders ethernet_fault
   other_encapsulation = encapsulated_otherwise_in switches;
   ipxnet_full = full_in servers;
   ipxnet_full_of_address = full_of_address_in servers;
+  ipxnet_rate_limited = rate_limited_in servers;
+  ipxnet_busy = busy_in servers;
 }
 
 module _ {gd : OfDevice.Ghosts (SourceFilter UdpSockets)} {ge : OfSockets.Ghosts EthernetSockets} {gl : OfPlaces.Ghosts ServerSockets} (r : SitePortsRun gd ge gl) where

@@ -19,7 +19,7 @@ use Rattle.ipx_carrier.specs.PriorityRouterCore.{PriorityQueues}
 use Rattle.ipx_sockets.specs.Moments.{HasPassed, IsOneDue}
 use Rattle.ipx_site.specs.SiteCore.{SiteCore}
 use Rattle.ipx_site.specs.EthernetTotals.{encapsulated_otherwise_in, unframed_in}
-use Rattle.ipx_site.specs.IpxnetTotals.{full_in, full_of_address_in}
+use Rattle.ipx_site.specs.IpxnetTotals.{busy_in, full_in, full_of_address_in, rate_limited_in}
 
 -- the times at which a router repeats its requests, in milliseconds since its start
 abbrev pub askings : List ℕ
@@ -48,6 +48,8 @@ pub record EventCounts : Type 0 where
   pub other_encapsulation : ℕ
   pub ipxnet_full : ℕ
   pub ipxnet_full_of_address : ℕ
+  pub ipxnet_rate_limited : ℕ
+  pub ipxnet_busy : ℕ
 
 -- as its metrics say
 abbrev pub happened_in : Metrics → EventCounts
@@ -69,6 +71,8 @@ happened_in f = record {
   other_encapsulation = f.other_encapsulation;
   ipxnet_full = f.ipxnet_full;
   ipxnet_full_of_address = f.ipxnet_full_of_address;
+  ipxnet_rate_limited = f.ipxnet_rate_limited;
+  ipxnet_busy = f.ipxnet_busy;
 }
 
 -- how many datagrams and frames the system refused
@@ -96,6 +100,8 @@ happened totals core ports = record {
   other_encapsulation = encapsulated_otherwise_in ports.ethernet.switches.items;
   ipxnet_full = full_in ports.servers.servers.items;
   ipxnet_full_of_address = full_of_address_in ports.servers.servers.items;
+  ipxnet_rate_limited = rate_limited_in ports.servers.servers.items;
+  ipxnet_busy = busy_in ports.servers.servers.items;
 }
 
 -- in the order of the log lines
@@ -103,7 +109,7 @@ abbrev pub counts_to_log : EventCounts → List ℕ
 counts_to_log n = n.unknown_senders ∷ n.spoofed ∷ n.not_a_router ∷ n.rate_limited ∷ n.refused ∷ n.table_full
     ∷ n.queue_full ∷ n.device ∷ n.memory ∷ n.file ∷ n.frame_unknown_senders ∷ n.unframed
     ∷ n.other_encapsulation ∷ n.directed ∷ n.ipxnet_unknown_senders ∷ n.ipxnet_full
-    ∷ n.ipxnet_full_of_address ∷ []
+    ∷ n.ipxnet_full_of_address ∷ n.ipxnet_rate_limited ∷ n.ipxnet_busy ∷ []
 
 -- a line for one of a router's causes is due
 abbrev pub IsLineDue : Warnings → EventCounts → ℕ → Type 0

@@ -10,3 +10,10 @@ full_in servers = counted (sum_by (λ s. s.counts.full) servers)
 -- those that were dropped because all places of their IP address were taken
 abbrev pub full_of_address_in : List ServerView → ℕ
 full_of_address_in servers = counted (sum_by (λ s. s.counts.full_of_address) servers)
+
+-- what is for all, and was dropped: of players over their limit, and over the limit of its port
+abbrev pub rate_limited_in : List ServerView → ℕ
+rate_limited_in servers = counted (sum_by (λ s. s.counts.rate_limited) servers)
+
+abbrev pub busy_in : List ServerView → ℕ
+busy_in servers = counted (sum_by (λ s. s.counts.busy) servers)

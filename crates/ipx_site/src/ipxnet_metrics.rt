@@ -107,6 +107,8 @@ pub fn put_drops(text: &mut String, number: usize, counts: ServerCounts) -> Resu
         ("response", counts.response),
         ("not_behind", counts.not_behind),
         ("for_elsewhere", counts.for_elsewhere),
+        ("rate_limited", counts.rate_limited),
+        ("busy", counts.busy),
     ];
     for (reason, count) in metrics {
         write!(

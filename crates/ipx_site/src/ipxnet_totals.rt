@@ -1,9 +1,9 @@
 //! Totals over the servers of a router's ports for ipxnet.
 
 ghost use Rattle.std.specs.Prelude.{◌≡◌};
-ghost use Rattle.ipx_site.specs.IpxnetTotals.{full_in, full_of_address_in};
+ghost use Rattle.ipx_site.specs.IpxnetTotals.{busy_in, full_in, full_of_address_in, rate_limited_in};
 
-use ipxnet_server::IpxnetServer;
+use ipxnet_server::{IpxnetServer, LimitedFlood};
 
 /// The number of datagrams of new players that were dropped because all places of their port were
 /// taken. Saturates at the greatest u64.
@@ -27,4 +27,46 @@ pub fn full_of_address(servers: &[IpxnetServer]) -> u64
         total = total.saturating_add(server.counts().full_of_address);
     }
     total
+}
+
+/// The number of broadcasts of players that were dropped because their player had sent too many.
+/// Saturates at the greatest u64.
+pub fn rate_limited(servers: &[IpxnetServer]) -> u64
+    ensures { result ≡ rate_limited_in servers.now }
+{
+    let mut total: u64 = 0;
+    for server in servers {
+        total = total.saturating_add(server.counts().rate_limited);
+    }
+    total
+}
+
+/// The number of broadcasts that were dropped because their port had sent too many copies.
+/// Saturates at the greatest u64.
+pub fn busy(servers: &[IpxnetServer]) -> u64
+    ensures { result ≡ busy_in servers.now }
+{
+    let mut total: u64 = 0;
+    for server in servers {
+        total = total.saturating_add(server.counts().busy);
+    }
+    total
+}
+
+/// The last broadcast that was dropped because its player had sent too many.
+pub fn last_limited(servers: &[IpxnetServer]) -> Option<LimitedFlood> {
+    let mut last: Option<LimitedFlood> = None;
+    for server in servers {
+        last = later(last, server.last_limited());
+    }
+    last
+}
+
+/// The later of two, if there is any.
+fn later(a: Option<LimitedFlood>, b: Option<LimitedFlood>) -> Option<LimitedFlood> {
+    match (a, b) {
+        (Some(a), Some(b)) => Some(if a.at <= b.at { b } else { a }),
+        (Some(a), None) => Some(a),
+        (None, b) => b,
+    }
 }

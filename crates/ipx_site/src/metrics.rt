@@ -43,6 +43,12 @@ pub struct Metrics {
     pub ipxnet_full: u64,
     /// Those that were dropped because all places of their IP address were taken.
     pub ipxnet_full_of_address: u64,
+    /// The broadcasts of players that were dropped because their player had sent too many.
+    pub ipxnet_rate_limited: u64,
+    /// The address of the player that sent the last of these.
+    pub ipxnet_last_limited: Option<SocketAddrV4>,
+    /// The broadcasts that were dropped because their port for ipxnet had sent too many copies.
+    pub ipxnet_busy: u64,
     /// The packets that no frame could carry.
     pub unframed: u64,
     /// The frames with a packet in an encapsulation other than their port's.

@@ -7,7 +7,7 @@ ghost use Rattle.ipx_site.specs.IdleTime.{happened, happened_in, lost_in};
 ghost use Rattle.ipx_site.specs.RouterMetrics.{AreMetrics, no_counts, with_batch, with_memory_fault};
 
 use crate::ethernet_totals::{in_other_encapsulations, unframed};
-use crate::ipxnet_totals::{full, full_of_address};
+use crate::ipxnet_totals::{busy, full, full_of_address, last_limited, rate_limited};
 use crate::metrics::Metrics;
 use crate::route_change_log::RouteChangeLog;
 use crate::router_ports::UdpRouterPorts;
@@ -131,6 +131,9 @@ impl RouterCounts {
             ipxnet_unknown_senders: ipxnet_unknown_senders(ports),
             ipxnet_full: full(servers),
             ipxnet_full_of_address: full_of_address(servers),
+            ipxnet_rate_limited: rate_limited(servers),
+            ipxnet_last_limited: last_limited(servers).map(|flood| flood.from),
+            ipxnet_busy: busy(servers),
             unframed: unframed(switches),
             other_encapsulation: in_other_encapsulations(switches),
             device_faults: self.device_faults.saturating_add(faults_of(ports)),

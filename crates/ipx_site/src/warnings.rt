@@ -11,7 +11,7 @@ use ipx_wire::Address;
 use log::Log;
 
 /// The number of warnings of a router.
-const CAUSES: usize = 17;
+const CAUSES: usize = 19;
 
 /// The index of the warning about other encapsulations.
 const ENCAPSULATIONS: usize = 12;
@@ -60,6 +60,17 @@ fn frame_warning(f: &Metrics) -> Warning
     warning.with_last(f.frame_last_unknown.map(LastTime::Place))
 }
 
+/// The warning about broadcasts of players over their limit.
+fn flood_warning(f: &Metrics) -> Warning
+    ensures { result.kept.count ≡ f.now.ipxnet_rate_limited }
+{
+    let warning = Warning::of_nobody(
+        f.ipxnet_rate_limited,
+        "broadcasts of players dropped: more than 128 a second of one",
+    );
+    warning.with_last(f.ipxnet_last_limited.map(LastTime::Place))
+}
+
 /// The warnings of a router.
 fn warnings_in(f: &Metrics) -> [Warning; CAUSES]
     ensures { counts_of result ≡ counts_to_log (happened_in f.now) }
@@ -97,13 +108,18 @@ fn warnings_in(f: &Metrics) -> [Warning; CAUSES]
             f.ipxnet_full_of_address,
             "datagrams of new players dropped: all places of their IP address are taken",
         ),
+        flood_warning(f),
+        Warning::of_nobody(
+            f.ipxnet_busy,
+            "broadcasts dropped: more than 100000 copies a second at a port for ipxnet",
+        ),
     ]
 }
 
 impl Warnings {
     /// Nothing has been logged yet.
     pub fn new() -> Warnings
-        ensures { result.causes ≡ replicate 17 untold }
+        ensures { result.causes ≡ replicate 19 untold }
     {
         Warnings {
             causes: [ThrottledLog::new(); CAUSES],

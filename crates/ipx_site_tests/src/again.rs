@@ -2,12 +2,13 @@
 
 use ipx_carrier::Core;
 use ipx_metrics::MeteredRouter;
-use ipx_rate_limits::{PortBuckets, RateLimit, RateLimiter, TokenBucket};
+use ipx_rate_limits::{PortBuckets, RateLimiter};
 use ipx_router::{Port, Router};
 use ipx_static::{RestartDiscovery, WithStatics};
 use ipx_wire::{Network, Node, OutOfMemory};
 use std::alloc::{AllocError, Global};
 use std::test::Fail;
+use token_bucket::{RateLimit, TokenBucket};
 
 fn ports(alloc: Global) -> Result<Vec<Port>, AllocError> {
     let mut ports = Vec::new(alloc);

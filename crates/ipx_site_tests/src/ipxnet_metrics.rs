@@ -59,7 +59,7 @@ const SECOND_NODE: Node = Node([2, 4, 0x8c, 0xef, 0xf4, 0x3a]);
 const NOBODY: Node = Node([0, 0, 0, 0, 0, 1]);
 
 /// All reasons, in the order of the metrics.
-const REASONS: [&str; 15] = [
+const REASONS: [&str; 17] = [
     "malformed",
     "node_taken",
     "full_of_address",
@@ -75,9 +75,12 @@ const REASONS: [&str; 15] = [
     "response",
     "not_behind",
     "for_elsewhere",
+    "rate_limited",
+    "busy",
 ];
 
-/// What is sent after the registrations of the players.
+/// What is sent after the registrations of the players. Nothing here is dropped as `busy`: that takes
+/// 200,000 copies.
 #[derive(Clone, Copy)]
 enum Sent {
     /// Three bytes that are no packet.
@@ -93,6 +96,8 @@ enum Sent {
     Packet((u32, Node, u16), (u32, Node)),
     /// The same in 1,425 bytes, to all nodes.
     Long(Node),
+    /// 257 packets from a node to all nodes.
+    Often(Node),
 }
 
 /// A reason: how many clients are allowed, whether the server is joined to a router, who sends, and
@@ -128,7 +133,7 @@ fn of_place(reason: &'static str, joined: bool, from: SocketAddrV4, sent: Sent) 
     }
 }
 
-fn rows() -> [Row; 15] {
+fn rows() -> [Row; 16] {
     [
         of_place("malformed", false, first_place(), Sent::Three),
         of_place("node_taken", true, unknown_place(), Sent::AfterJoined),
@@ -169,6 +174,12 @@ fn rows() -> [Row; 15] {
             true,
             south_place(),
             Sent::Packet((0x99, SECOND_NODE, 0x4001), (0, NOBODY)),
+        ),
+        of_place(
+            "rate_limited",
+            false,
+            first_place(),
+            Sent::Often(FIRST_NODE),
         ),
     ]
 }
@@ -217,6 +228,12 @@ fn put(sockets: &mut MemoryPlaces, from: SocketAddrV4, sent: Sent) -> Result<(),
             let bytes = packet(1425, (0, Node::BROADCAST, 0x4001), (0, node));
             sockets.put(0, from, &bytes)?;
         }
+        Sent::Often(node) => {
+            let bytes = packet(34, (0, Node::BROADCAST, 0x4001), (0, node));
+            for _ in 0..257 {
+                sockets.put(0, from, &bytes[..34])?;
+            }
+        }
     }
     Ok(())
 }
@@ -257,7 +274,7 @@ fn metrics(alloc: Global, row: Row) -> Result<String, Fail> {
         &mut core,
         &mut servers,
         &mut SteppedClock::new(0, 1),
-        100,
+        400,
     );
     let mut text = String::new(alloc);
     put_drops(&mut text, 2, servers.servers()[0].counts())?;
@@ -288,6 +305,6 @@ fn metrics_by_cause(rt: HostRuntime) -> Result<(), Fail> {
 fn refused_drops(rt: HostRuntime) {
     let mut text = String::new(rt.alloc());
     if put_drops(&mut text, 1, ServerCounts::new()).is_ok() {
-        assert!(rt; text.as_str().ends_with("reason=\"for_elsewhere\"} 0\n"));
+        assert!(rt; text.as_str().ends_with("reason=\"busy\"} 0\n"));
     }
 }

@@ -142,6 +142,8 @@ fn ipxnet(alloc: Global) -> Result<IpxnetMetrics, AllocError> {
         node_taken: 614,
         full_of_address: 615,
         full: 616,
+        rate_limited: 619,
+        busy: 620,
     };
     let port = IpxnetPortMetrics {
         number: 3,
@@ -317,6 +319,8 @@ ipx_ipxnet_dropped_total{port=\"3\",reason=\"from_elsewhere\"} 610
 ipx_ipxnet_dropped_total{port=\"3\",reason=\"response\"} 611
 ipx_ipxnet_dropped_total{port=\"3\",reason=\"not_behind\"} 612
 ipx_ipxnet_dropped_total{port=\"3\",reason=\"for_elsewhere\"} 613
+ipx_ipxnet_dropped_total{port=\"3\",reason=\"rate_limited\"} 619
+ipx_ipxnet_dropped_total{port=\"3\",reason=\"busy\"} 620
 # HELP ipx_ipxnet_unknown_senders_total Datagrams from senders that may not register.
 # TYPE ipx_ipxnet_unknown_senders_total counter
 ipx_ipxnet_unknown_senders_total 617

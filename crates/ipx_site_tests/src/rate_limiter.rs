@@ -1,13 +1,14 @@
 //! General queries, how often those of each querier pass, narrow queries, and directed broadcasts.
 
 use ipx_carrier::Core;
-use ipx_rate_limits::{PortBuckets, RateLimit, RateLimiter, TokenBucket};
+use ipx_rate_limits::{PortBuckets, RateLimiter};
 use ipx_router::Port;
 use ipx_sockets::DropCount;
 use ipx_wire::{
     Address, IpxHeader, Network, Node, OutOfMemory, Packet, Socket, encode_into, packet_type,
 };
 use std::alloc::{AllocError, Global};
+use token_bucket::{RateLimit, TokenBucket};
 
 /// A core that counts what it hears, and that first runs out of memory `refused` times.
 #[derive(Drop)]
