@@ -65,7 +65,7 @@ fn origin_in(text: &[u8]) -> Option<AllowedPeer>
 }
 
 /// The entry that a value gives.
-fn origin_of(value: &Value) -> Option<AllowedPeer>
+pub(crate) fn origin_of(value: &Value) -> Option<AllowedPeer>
     ensures { Reads IsOrigin (view value.now) result }
 {
     origin_in(value.as_str()?.as_bytes())

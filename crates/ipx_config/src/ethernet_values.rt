@@ -68,7 +68,7 @@ fn place_written(text: &str) -> Option<SocketAddrV4>
 }
 
 /// The place of a remote that a value gives.
-fn end_of(value: &Value) -> Option<SocketAddrV4>
+pub(crate) fn end_of(value: &Value) -> Option<SocketAddrV4>
     ensures { Reads IsEthernetEnd (view value.now) result }
 {
     place_written(value.as_str()?)

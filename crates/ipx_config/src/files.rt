@@ -9,6 +9,7 @@ ghost use Rattle.ipx_config.specs.SitePorts.{router_ports};
 ghost use Rattle.ipx_config.specs.Site.{IsSiteText, IsSiteTextFault};
 
 use crate::fault::ConfigError;
+use crate::fault_line::FaultLine;
 use crate::host::{HostConfig, read_host};
 use crate::reading::read_site;
 use crate::site::RouterConfig;
@@ -37,13 +38,14 @@ pub fn tell_no_memory<R: Eprint>(rt: &R, path: &str) -> u8
 }
 
 /// Reports a fault of a file's text, and returns the exit status.
-fn tell_fault<R: Eprint>(rt: &R, path: &str, fault: &ConfigError) -> u8
+fn tell_fault<R: Eprint>(rt: &R, alloc: Global, path: &str, text: &str, fault: &ConfigError) -> u8
     ensures { result ≡ fault_status fault.now }
 {
     if let ConfigError::OutOfMemory = fault {
         return tell_no_memory(rt, path);
     }
-    let _ = eprintln!(rt; "{path}: {fault}");
+    let line = FaultLine::new(alloc, text, fault);
+    let _ = eprintln!(rt; "{path}: {line}");
     2
 }
 
@@ -112,7 +114,7 @@ pub fn site_in<R: Eprint>(
     let text = text_of(rt, path, bytes)?;
     match read_site(alloc, text) {
         Ok(site) => Ok(site),
-        Err(fault) => Err(tell_fault(rt, path, &fault)),
+        Err(fault) => Err(tell_fault(rt, alloc, path, text, &fault)),
     }
 }
 
@@ -130,7 +132,7 @@ pub(crate) fn host_in<R: Eprint>(
     let text = text_of(rt, path, bytes)?;
     match read_host(alloc, text) {
         Ok(host) => Ok(host),
-        Err(fault) => Err(tell_fault(rt, path, &fault)),
+        Err(fault) => Err(tell_fault(rt, alloc, path, text, &fault)),
     }
 }
 

@@ -95,13 +95,13 @@ impl Key {
             }
             Key::Port => "1 to 16 tables [[port]]",
             Key::Network => "eight hex digits, neither all 0 nor all f, such as \"00000011\"",
-            Key::Address => "an IP address of this machine, such as \"192.0.2.10\"",
+            Key::Address => "an IPv4 address of this machine, such as \"192.0.2.10\"",
             Key::UdpPort => "a number from 1 to 65535, such as 213",
             Key::Cost => "a number of ticks from 1 to 65535, such as 6",
             Key::Peers => "a list of IP addresses, such as [\"198.51.100.7\", \"203.0.113.9\"]",
             Key::Routers => "a list of IP addresses that are also in peers",
             Key::Accept => "\"peers\" or \"any\"",
-            Key::Router => "the IP address of a router, such as \"10.1.0.1\"",
+            Key::Router => "the IPv4 address of a router, such as \"10.1.0.1\"",
             Key::Socket => "four hex digits, not all 0, such as \"4002\"",
             Key::Buffers => "a number from 1 to 8192, such as 64",
             Key::Allow => {

@@ -27,7 +27,10 @@ impl fmt::Display for TargetFault {
     fn fmt<W: fmt::Write>(&self, f: &mut fmt::Formatter<W>) -> fmt::Result {
         f.write_str(match self {
             TargetFault::Network => "NET must be eight hex digits, such as 00000033",
-            TargetFault::Node => "NODE must be twelve hex digits, such as 00007f000104",
+            TargetFault::Node => {
+                "NODE must be twelve hex digits, such as 00007f000104 for IP address 127.0.1.4: \
+                 0000, and then its four bytes in hex"
+            },
             TargetFault::Socket => "SOCKET must be four hex digits, such as 4002",
         })
     }

@@ -7,10 +7,10 @@ use crate::site::Kind;
 use std::fmt;
 
 /// The greatest number of the table of a port.
-const LAST_PORT: usize = 16;
+pub(crate) const LAST_PORT: usize = 16;
 
 /// The greatest number of the table of a route. The tables of services follow.
-const LAST_ROUTE: usize = 272;
+pub(crate) const LAST_ROUTE: usize = 272;
 
 /// The keys of a table, by its number.
 fn keys_of(table: usize) -> &'static str {
@@ -139,7 +139,7 @@ fn right_in(table: usize, key: Key) -> &'static str {
     }
     match (table, key) {
         (1..=LAST_PORT, Key::Address) => {
-            "an IP address of this machine, such as \"192.0.2.10\", or for kind \"ipxnet\" also \"any\""
+            "an IPv4 address of this machine, such as \"192.0.2.10\", or for kind \"ipxnet\" also \"any\""
         }
         (0, Key::Peers) => {
             "a list of at most 256 IP addresses, such as [\"198.51.100.7\", \"203.0.113.9\"]"
@@ -225,6 +225,9 @@ fn write_unknown<W: fmt::Write>(
     }
     if table > 0 && is_of_file(name) {
         return write!(f, "{name} must come before the first [[port]]");
+    }
+    if matches!(table, 1..=LAST_PORT) && name == "port" {
+        return f.write_str("port is no key of a port: its UDP port is udp_port");
     }
     if let Some(right) = place_of_key(table, name) {
         return write!(f, "{name} is a key of {right}");

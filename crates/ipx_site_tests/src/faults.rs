@@ -130,7 +130,7 @@ const SITES: [(&str, &str); 26] = [
     ),
     (
         "[[port]]\nnetwork = \"00000001\"",
-        "port 1: address is missing: expected an IP address of this machine, such as \"192.0.2.10\", or for kind \"ipxnet\" also \"any\"",
+        "port 1: address is missing: expected an IPv4 address of this machine, such as \"192.0.2.10\", or for kind \"ipxnet\" also \"any\"",
     ),
 ];
 

@@ -9,6 +9,8 @@ mod again;
 #[cfg(test)]
 mod client_lines;
 #[cfg(test)]
+mod fault_lines;
+#[cfg(test)]
 mod faults;
 #[cfg(test)]
 mod files;

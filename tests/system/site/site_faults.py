@@ -40,8 +40,8 @@ RFC1234_KEYS = "its keys are kind, network, address, udp_port, cost, peers, rout
 FRAMES_KEYS = "its keys are kind, network, encapsulation, address, udp_port, cost, remotes, node, switch, directed"
 IPXNET_KEYS = "its keys are kind, network, address, udp_port, cost, node, clients, accept, peers, join, directed"
 NETWORK = 'eight hex digits, neither all 0 nor all f, such as "00000011"'
-ADDRESS = 'an IP address of this machine, such as "192.0.2.10", or for kind "ipxnet" also "any"'
-HOST_ADDRESS = 'an IP address of this machine, such as "192.0.2.10"'
+ADDRESS = 'an IPv4 address of this machine, such as "192.0.2.10", or for kind "ipxnet" also "any"'
+HOST_ADDRESS = 'an IPv4 address of this machine, such as "192.0.2.10"'
 NUMBER = "a number from 1 to 65535, such as 213"
 REQUIRED = "a number from 1 to 65535, such as 24002"
 COST = "a number of ticks from 1 to 65535, such as 6"
@@ -49,13 +49,21 @@ PEERS = 'a list of IP addresses, such as ["198.51.100.7", "203.0.113.9"]'
 PORTS = "1 to 16 tables [[port]]"
 SECRET = 'a file name, different from metrics_file and tables_file with or without .new, such as "/var/lib/ipx/hq/secret"'
 SOCKET = 'four hex digits, not all 0, such as "4002"'
-ROUTER = 'the IP address of a router, such as "10.1.0.1"'
+ROUTER = 'the IPv4 address of a router, such as "10.1.0.1"'
 BUFFERS = "a number from 1 to 8192, such as 64"
 FROM = ('a list of at most 256 networks, each with or without a node after it, such as '
         '["00000022 00000a02001e", "00000033"]')
 INSTEAD = '; a port of kind "ipxnet" may have accept = "any" instead'
 UNQUOTED = ('invalid value, expected a string, number, boolean, date-time, array or inline table; if it is text, it needs double quotes, '
             'such as "10.1.0.1"')
+# What follows, if the text tells more of the fault.
+QUOTED, NO_QUOTES = "; write it in double quotes", "; write it without quotes"
+NO_IP, NO_PLACE, NO_NETWORK = (f"is no valid {what}" for what in ("IP address", "address:port", "network"))
+NO_TEXT = "is no text in double quotes"
+MANY = "the list has 257 entries"
+OPEN = "invalid string; its closing quote is missing"
+COMMA = "missing comma between array elements, expected `,` or `]`"
+ODD_QUOTES = "the line has an odd number of double quotes"
 OF_PORT = "a table [[port]] or of a host's file, and not of a router's file itself"
 FEW_PEERS = 'a list of at most 256 IP addresses, such as ["198.51.100.7", "203.0.113.9"]'
 ROUTERS = "a list of at most 256 IP addresses that are also in peers"
@@ -126,7 +134,7 @@ ROUTER_FILES = [
     ("port = 1\n", f"port: expected {PORTS}"),
     ("port = [1]\n", f"port 1: port: expected {PORTS}"),
     ("".join(PORT.replace("11", f"{number:02x}") for number in range(1, 18)), f"port: expected {PORTS}"),
-    ("metrics_file = 1\n" + PORT, f"metrics_file: expected {STATUS}"),
+    ("metrics_file = 1\n" + PORT, f"metrics_file: expected {STATUS}{QUOTED}"),
     ('metrics_file = ""\n' + PORT, f"metrics_file: expected {STATUS}"),
     ('metrics_file = "/run/ipx/h\\u0000q"\n' + PORT, f"metrics_file: expected {STATUS}"),
     ("tables_file = []\nport = 1", f"tables_file: expected {TABLES}"),
@@ -138,7 +146,7 @@ ROUTER_FILES = [
     ('router = "10.1.0.1"\n' + PORT, "router is a key of a host's file, and this command reads a router's file"),
     ("peer = []\n" + PORT, f"unknown key peer: {KEYS}"),
     ('status = "a"\n' + PORT, "`status` is now `metrics_file`"),
-    ("secret_file = 1\nport = 1", f"secret_file: expected {SECRET}"),
+    ("secret_file = 1\nport = 1", f"secret_file: expected {SECRET}{QUOTED}"),
     ('metrics_file = "hq"\nsecret_file = "hq"\n' + PORT, f"secret_file: expected {SECRET}"),
     ('tables_file = "hq"\nsecret_file = "hq.new"\n' + PORT, f"secret_file: expected {SECRET}"),
     ('tables = "a"\n' + PORT, "`tables` is now `tables_file`"),
@@ -162,7 +170,7 @@ ROUTER_FILES = [
     (changed(PORT, "network", '"00000000"'), f"port 1: network: expected {NETWORK}"),
     (changed(PORT, "network", '"ffffffff"'), f"port 1: network: expected {NETWORK}"),
     (changed(PORT, "network", '"11"'), f"port 1: network: expected {NETWORK}"),
-    (changed(PORT, "network", "11"), f"port 1: network: expected {NETWORK}"),
+    (changed(PORT, "network", "11"), f"port 1: network: expected {NETWORK}{QUOTED}"),
     (changed(PORT, "address", '"127.0.1.256"'), f"port 1: address: expected {ADDRESS}"),
     (changed(PORT, "address", '"localhost"'), f"port 1: address: expected {ADDRESS}"),
     (changed(PORT, "address", '"0.0.0.0"'), f"port 1: address: expected {ADDRESS}"),
@@ -170,15 +178,17 @@ ROUTER_FILES = [
     (changed(PORT, "udp_port", "0"), f"port 1: udp_port: expected {NUMBER}"),
     (changed(PORT, "udp_port", "65536"), f"port 1: udp_port: expected {NUMBER}"),
     (PORT + "cost = 0\n", f"port 1: cost: expected {COST}"),
-    (PORT + "cost = \"6\"\n", f"port 1: cost: expected {COST}"),
+    (PORT + "cost = \"6\"\n", f"port 1: cost: expected {COST}{NO_QUOTES}"),
+    (changed(PORT, "udp_port", '"20999"'), f"port 1: udp_port: expected {NUMBER}{NO_QUOTES}"),
     (changed(PORT, "peers", '"127.0.1.20"'), f"port 1: peers: expected {PEERS}"),
-    (changed(PORT, "peers", '["127.0.1.20", "b"]'), f"port 1: peers: expected {PEERS}"),
-    (changed(PORT, "peers", '["127.0.1.20", "0.0.0.0"]'), f"port 1: peers: expected {PEERS}"),
+    (changed(PORT, "peers", '["127.0.1.20", "bob.example.org"]'), f'port 1: peers: expected {PEERS}; "bob.example.org" {NO_IP}'),
+    (changed(PORT, "peers", '["127.0.1.20", 5, "b"]'), f"port 1: peers: expected {PEERS}; entry 2 {NO_TEXT}"),
+    (changed(PORT, "peers", '["127.0.1.20", "0.0.0.0"]'), f'port 1: peers: expected {PEERS}; "0.0.0.0" {NO_IP}'),
     (PORT + "routers = \"127.0.1.20\"\n", "port 1: routers: expected a list of IP addresses that are also in peers"),
-    (PORT + "routers = [\"127.0.1.20\", \"127.0.1.21\"]\n", "port 1: routers: expected a list of IP addresses that are also in peers"),
-    (PORT + "routers = [\"b\"]\naccept = true\n", "port 1: routers: expected a list of IP addresses that are also in peers"),
-    (PORT + "routers = []\naccept = true\n", 'port 1: accept: expected "peers" or "any"'),
-    (PORT + "accept = true\n", 'port 1: accept: expected "peers" or "any"'),
+    (PORT + "routers = [\"127.0.1.20\", \"127.0.1.21\"]\n", 'port 1: routers: expected a list of IP addresses that are also in peers; "127.0.1.21" is not in peers'),
+    (PORT + "routers = [\"b\"]\naccept = true\n", f'port 1: routers: expected a list of IP addresses that are also in peers; "b" {NO_IP}'),
+    (PORT + "routers = []\naccept = true\n", f'port 1: accept: expected "peers" or "any"{QUOTED}'),
+    (PORT + "accept = true\n", f'port 1: accept: expected "peers" or "any"{QUOTED}'),
     (PORT + "accept = \"all\"\n", 'port 1: accept: expected "peers" or "any"'),
     (PORT + SECOND.replace("00000022", "00000011"), "port 2: network 00000011 is already used by port 1"),
     (PORT + WIRE.replace("00000022", "00000011"), "port 2: network 00000011 is already used by port 1"),
@@ -188,7 +198,7 @@ ROUTER_FILES = [
     (changed(PLAYERS, "address", '"any"') + 'accept = "any"\n' + WIRE.replace("127.0.1.1", "127.0.1.2"), f"port 2: {SAME}"),
     (PORT + WIRE.replace("20999", "20997") + PLAYERS + 'accept = "any"\n', f"port 3: {SAME}"),
     (PORT + "kind = \"dosbox\"\npeer = []\n", f"port 1: kind: expected {KIND}"),
-    (PORT + "kind = 1\n", f"port 1: kind: expected {KIND}"),
+    (PORT + "kind = 1\n", f"port 1: kind: expected {KIND}{QUOTED}"),
     (PORT + "switch = true\n", f'port 1: switch is not a key of kind "rfc1234": {RFC1234_KEYS}'),
     (PLAYERS, f"port 1: peers is missing: expected {PEERS}{INSTEAD}"),
     (PLAYERS + 'accept = "any"\nclients = 151\n', "port 1: clients: expected a number from 1 to 150, such as 64"),
@@ -203,20 +213,31 @@ ROUTER_FILES = [
     (without(WIRE, "udp_port"), f"port 1: udp_port is missing: expected {REQUIRED}"),
     (without(WIRE, "remotes"), f"port 1: remotes is missing: expected {ENDS}"),
     (changed(WIRE, "encapsulation", '"raw"'), f"port 1: encapsulation: expected {FRAME}"),
-    (changed(WIRE, "encapsulation", "802.2"), f"port 1: encapsulation: expected {FRAME}"),
+    (changed(WIRE, "encapsulation", "802.2"), f"port 1: encapsulation: expected {FRAME}{QUOTED}"),
     (changed(WIRE, "udp_port", "0"), f"port 1: udp_port: expected {NUMBER}"),
     (WIRE + "cost = 65536\n", f"port 1: cost: expected {COST}"),
     (changed(WIRE, "remotes", "[]"), f"port 1: remotes: expected {ENDS}"),
     (changed(WIRE, "remotes", '"127.0.1.3:20998"'), f"port 1: remotes: expected {ENDS}"),
-    (changed(WIRE, "remotes", '["127.0.1.3"]'), f"port 1: remotes: expected {ENDS}"),
-    (changed(WIRE, "remotes", '["127.0.1.3:20998", "localhost:20998"]'), f"port 1: remotes: expected {ENDS}"),
-    (changed(WIRE, "remotes", '["0.0.0.0:20998"]'), f"port 1: remotes: expected {ENDS}"),
-    (changed(WIRE, "remotes", '["127.0.1.3:0"]'), f"port 1: remotes: expected {ENDS}"),
-    (changed(WIRE, "remotes", str(["127.0.1.3:20998"] * 257).replace("'", '"')), f"port 1: remotes: expected {ENDS}"),
+    (changed(WIRE, "remotes", '["127.0.1.3"]'), f'port 1: remotes: expected {ENDS}; "127.0.1.3" {NO_PLACE}'),
+    (changed(WIRE, "remotes", '["127.0.1.3:20998", "localhost:20998"]'), f'port 1: remotes: expected {ENDS}; "localhost:20998" {NO_PLACE}'),
+    (changed(WIRE, "remotes", '["0.0.0.0:20998"]'), f'port 1: remotes: expected {ENDS}; "0.0.0.0:20998" {NO_PLACE}'),
+    (changed(WIRE, "remotes", '["127.0.1.3:0"]'), f'port 1: remotes: expected {ENDS}; "127.0.1.3:0" {NO_PLACE}'),
+    (changed(WIRE, "remotes", str(["127.0.1.3:20998"] * 257).replace("'", '"')), f"port 1: remotes: expected {ENDS}; {MANY}"),
     (WIRE + "node = \"020000000022\"\n", f"port 1: node: expected {STATION}"),
     (WIRE + "node = \"03:00:00:00:00:22\"\n", f"port 1: node: expected {STATION}"),
     (WIRE + "node = \"00:00:00:00:00:00\"\nswitch = 1\n", f"port 1: node: expected {STATION}"),
-    (WIRE + "switch = \"true\"\n", "port 1: switch: expected true or false"),
+    (WIRE + "switch = \"true\"\n", f"port 1: switch: expected true or false{NO_QUOTES}"),
+    (changed(PORT, "network", '"00000011'), f"line {1 + len(without(PORT, 'network').splitlines())}: {OPEN}"),
+    (changed(PORT, "network", "'00000011"), f"line {1 + len(without(PORT, 'network').splitlines())}: {OPEN}"),
+    (changed(PORT, "network", '"0000\\u00001"'), f"port 1: network: expected {NETWORK}"),
+    (changed(PORT, "network", '"0000\x01011"'), f"line {1 + len(without(PORT, 'network').splitlines())}: invalid string"),
+    (changed(PORT, "network", '"00000011').rstrip(), f"line {1 + len(without(PORT, 'network').splitlines())}: {OPEN}"),
+    (changed(PORT, "peers", '["127.0.1.20, "127.0.1.21"]'), f"line {1 + len(without(PORT, 'peers').splitlines())}: {COMMA}; {ODD_QUOTES}"),
+    (changed(PORT, "peers", '["127.0.1.20" "127.0.1.21"]'), f"line {1 + len(without(PORT, 'peers').splitlines())}: {COMMA}"),
+    (PORT + SECOND.replace("[[port]]\n", ""), f"line {1 + len(PORT.splitlines())}: duplicate key; each port begins with a line [[port]]"),
+    ((PORT + SECOND).replace("[[port]]", "[port]"), f"line {1 + len(PORT.splitlines())}: duplicate key; each port begins with a line [[port]]"),
+    (PORT.replace("[[port]]", "[port]"), f"port: expected {PORTS}; write [[port]] in place of [port]"),
+    (PORT + "port = 213\n", "port 1: port is no key of a port: its UDP port is udp_port"),
 ]
 
 # So of routes and services by hand, behind a port.
@@ -232,7 +253,7 @@ ROUTER_FILES += [(TWO_PEERS + text, line) for text, line in (
     (changed(ROUTE, "port", "2"), f"route 1: port: expected {A_PORT}"),
     (changed(ROUTE, "port", "0"), f"route 1: port: expected {A_PORT}"),
     (changed(ROUTE, "port", "17"), f"route 1: port: expected {A_PORT}"),
-    (changed(ROUTE, "port", '"1"'), f"route 1: port: expected {A_PORT}"),
+    (changed(ROUTE, "port", '"1"'), f"route 1: port: expected {A_PORT}{NO_QUOTES}"),
     (without(ROUTE, "next_hop"), f"route 1: next_hop is missing: expected {NEXT}"),
     (changed(ROUTE, "next_hop", '"127.0.1.21"'), f"route 1: next_hop: expected {NEXT}"),
     (changed(ROUTE, "next_hop", '"127.0.1.1"'), f"route 1: next_hop: expected {NEXT}"),
@@ -250,7 +271,7 @@ ROUTER_FILES += [(TWO_PEERS + text, line) for text, line in (
     (without(SERVICE, "type"), f"service 1: type is missing: expected {TYPE}"),
     (changed(SERVICE, "type", '"0000"'), f"service 1: type: expected {TYPE}"),
     (changed(SERVICE, "type", '"ffff"'), f"service 1: type: expected {TYPE}"),
-    (changed(SERVICE, "type", "640"), f"service 1: type: expected {TYPE}"),
+    (changed(SERVICE, "type", "640"), f"service 1: type: expected {TYPE}{QUOTED}"),
     (without(SERVICE, "name"), f"service 1: name is missing: expected {NAME}"),
     (changed(SERVICE, "name", '""'), f"service 1: name: expected {NAME}"),
     (changed(SERVICE, "name", '"' + "A" * 48 + '"'), f"service 1: name: expected {NAME}"),
@@ -286,30 +307,33 @@ HOST_FILES = [
     (changed(HOST, "router", '"r1"'), f"router: expected {ROUTER}"),
     (changed(HOST, "router", '"0.0.0.0"'), f"router: expected {ROUTER}"),
     (changed(HOST, "socket", '"0000"'), f"socket: expected {SOCKET}"),
-    (changed(HOST, "socket", "4002"), f"socket: expected {SOCKET}"),
+    (changed(HOST, "socket", "4002"), f"socket: expected {SOCKET}{QUOTED}"),
+    (changed(HOST, "socket", '"4002'), f"line {len(HOST.splitlines())}: {OPEN}"),
+    (HOST + 'socket = "4003"\n', f"line {1 + len(HOST.splitlines())}: duplicate key"),
+    (HOST + "port = 213\n", "port is a key of a router's file, and this command reads a host's file; the UDP port is udp_port"),
     (changed(HOST, "udp_port", "-1"), f"udp_port: expected {NUMBER}"),
     (HOST + "buffers = 0\n", f"buffers: expected {BUFFERS}"),
     (HOST + "buffers = 8193\n", f"buffers: expected {BUFFERS}"),
     (HOST + "allow = \"00000033\"\n", f"allow: expected {FROM}"),
-    (HOST + "allow = [33]\n", f"allow: expected {FROM}"),
-    (HOST + "allow = [\"00000033\", \"33\"]\n", f"allow: expected {FROM}"),
-    (HOST + "allow = [\"00000000\"]\n", f"allow: expected {FROM}"),
-    (HOST + "allow = [\"ffffffff\"]\n", f"allow: expected {FROM}"),
-    (HOST + "allow = [\"0000002g\"]\n", f"allow: expected {FROM}"),
-    (HOST + "allow = [\"00000022 00000a02001\"]\n", f"allow: expected {FROM}"),
-    (HOST + "allow = [\"00000022-00000a02001e\"]\n", f"allow: expected {FROM}"),
-    (HOST + "allow = [\"00000000 00000a02001e\"]\n", f"allow: expected {FROM}"),
-    (HOST + f"allow = {['00000033'] * 257}\n".replace("'", '"'), f"allow: expected {FROM}"),
+    (HOST + "allow = [33]\n", f"allow: expected {FROM}; entry 1 {NO_TEXT}"),
+    (HOST + "allow = [\"00000033\", \"33\"]\n", f'allow: expected {FROM}; "33" {NO_NETWORK}'),
+    (HOST + "allow = [\"00000000\"]\n", f'allow: expected {FROM}; "00000000" {NO_NETWORK}'),
+    (HOST + "allow = [\"ffffffff\"]\n", f'allow: expected {FROM}; "ffffffff" {NO_NETWORK}'),
+    (HOST + "allow = [\"0000002g\"]\n", f'allow: expected {FROM}; "0000002g" {NO_NETWORK}'),
+    (HOST + "allow = [\"00000022 00000a02001\"]\n", f'allow: expected {FROM}; "00000022 00000a02001" {NO_NETWORK}'),
+    (HOST + "allow = [\"00000022-00000a02001e\"]\n", f'allow: expected {FROM}; "00000022-00000a02001e" {NO_NETWORK}'),
+    (HOST + "allow = [\"00000000 00000a02001e\"]\n", f'allow: expected {FROM}; "00000000 00000a02001e" {NO_NETWORK}'),
+    (HOST + f"allow = {['00000033'] * 257}\n".replace("'", '"'), f"allow: expected {FROM}; {MANY}"),
     (HOST + "buffers = 0\nallow = 1\n", f"buffers: expected {BUFFERS}"),
     (HOST + "peers = \"127.0.1.30\"\n", f"peers: expected {FEW_PEERS}"),
-    (HOST + "peers = [\"127.0.1.30\", \"b\"]\n", f"peers: expected {FEW_PEERS}"),
-    (HOST + "peers = [\"0.0.0.0\"]\n", f"peers: expected {FEW_PEERS}"),
-    (HOST + f"peers = {['127.0.1.30'] * 257}\n".replace("'", '"'), f"peers: expected {FEW_PEERS}"),
+    (HOST + "peers = [\"127.0.1.30\", \"b\"]\n", f'peers: expected {FEW_PEERS}; "b" {NO_IP}'),
+    (HOST + "peers = [\"0.0.0.0\"]\n", f'peers: expected {FEW_PEERS}; "0.0.0.0" {NO_IP}'),
+    (HOST + f"peers = {['127.0.1.30'] * 257}\n".replace("'", '"'), f"peers: expected {FEW_PEERS}; {MANY}"),
     (HOST + "routers = 1\n", f"routers: expected {ROUTERS}"),
-    (HOST + "routers = [\"127.0.1.30\"]\n", f"routers: expected {ROUTERS}"),
-    (HOST + "peers = [\"127.0.1.30\"]\nrouters = [\"127.0.1.30\", \"127.0.1.31\"]\n", f"routers: expected {ROUTERS}"),
-    (HOST + f"peers = [\"127.0.1.30\"]\nrouters = {['127.0.1.30'] * 257}\n".replace("'", '"'), f"routers: expected {ROUTERS}"),
-    (HOST + "accept = true\n", f"accept: expected {ACCEPT}"),
+    (HOST + "routers = [\"127.0.1.30\"]\n", f'routers: expected {ROUTERS}; "127.0.1.30" is not in peers'),
+    (HOST + "peers = [\"127.0.1.30\"]\nrouters = [\"127.0.1.30\", \"127.0.1.31\"]\n", f'routers: expected {ROUTERS}; "127.0.1.31" is not in peers'),
+    (HOST + f"peers = [\"127.0.1.30\"]\nrouters = {['127.0.1.30'] * 257}\n".replace("'", '"'), f"routers: expected {ROUTERS}; {MANY}"),
+    (HOST + "accept = true\n", f"accept: expected {ACCEPT}{QUOTED}"),
     (HOST + "accept = \"all\"\n", f"accept: expected {ACCEPT}"),
     (HOST + "buffers = 0\npeers = 1\n", f"buffers: expected {BUFFERS}"),
     (HOST + "peers = 1\nrouters = 1\n", f"peers: expected {FEW_PEERS}"),
