@@ -41,6 +41,12 @@ abbrev pub allow_text : Option (Vec AllowedPeer Global) → List ℕ
 allow_text None = []
 allow_text (Some allowed) = codes ", allow " ++ decimal (length allowed.items)
 
+-- the remark that is printed if that list is there and has no entry
+abbrev pub nobody_remark : Option (Vec AllowedPeer Global) → List ℕ
+nobody_remark None = []
+nobody_remark (Some allowed) =
+    if length allowed.items == 0 then codes "allow is empty: nobody can connect\n" else []
+
 -- the line about the file itself
 abbrev pub host_line : List ℕ → HostConfig → List ℕ
 host_line path h =
@@ -51,4 +57,5 @@ host_line path h =
 -- everything that is printed about the file of a host
 abbrev pub host_lines : List ℕ → HostConfig → List ℕ
 host_lines path h =
-    listener_text h ++ (10 ∷ (router_remark h ++ (peers_remarks h ++ host_line path h)))
+    listener_text h
+    ++ (10 ∷ (router_remark h ++ (peers_remarks h ++ (nobody_remark h.from ++ host_line path h))))

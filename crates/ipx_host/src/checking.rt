@@ -5,7 +5,7 @@ ghost use Rattle.std.specs.Io.KnownBytes.{Appends};
 ghost use Rattle.ipx_config.specs.Host.{IsHostText};
 ghost use Rattle.ipx_config.specs.Loading.{IsFileText};
 ghost use Rattle.ipx_config.specs.declared.host.HostConfig.{HostConfig as AHostFile};
-ghost use Rattle.ipx_host.specs.HostCheckLines.{allow_text, host_line, host_lines, list_count_text, listener_text, listen_address_text, peers_remarks, router_remark};
+ghost use Rattle.ipx_host.specs.HostCheckLines.{allow_text, host_line, host_lines, list_count_text, listener_text, listen_address_text, nobody_remark, peers_remarks, router_remark};
 
 use ipx_carrier::node_of;
 use ipx_config::{
@@ -78,6 +78,16 @@ fn allow_to_text(alloc: Global, file: &HostConfig) -> Result<String, AllocError>
     }
 }
 
+/// Returns the remark on an `allow` without an entry.
+fn remark_on_nobody(file: &HostConfig) -> &'static str
+    ensures { result.now ≡ nobody_remark file.now.from }
+{
+    match &file.from {
+        Some(allowed) if allowed.is_empty() => "allow is empty: nobody can connect\n",
+        _ => "",
+    }
+}
+
 /// Returns the line about the file itself.
 fn file_to_line(alloc: Global, path: &str, file: &HostConfig) -> Result<String, AllocError>
     ensures { IfOk result (λ t. string_bytes t ≡ host_line path.now file.now) }
@@ -96,8 +106,9 @@ fn host_to_lines(alloc: Global, path: &str, file: &HostConfig) -> Result<String,
     let listener = listener_to_text(alloc, file)?;
     let remark = remark_on_router(file);
     let peers = remarks_on_peers(alloc, file)?;
+    let nobody = remark_on_nobody(file);
     let line = file_to_line(alloc, path, file)?;
-    format!(in alloc; "{listener}\n{remark}{peers}{line}")
+    format!(in alloc; "{listener}\n{remark}{peers}{nobody}{line}")
 }
 
 /// Runs the command `listen --check`. It reads the file of a host, and writes what the host would

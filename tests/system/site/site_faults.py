@@ -61,7 +61,7 @@ QUOTED, NO_QUOTES = "; write it in double quotes", "; write it without quotes"
 NO_IP, NO_PLACE, NO_NETWORK = (f"is no valid {what}" for what in ("IP address", "address:port", "network"))
 NO_TEXT = "is no text in double quotes"
 MANY = "the list has 257 entries"
-OPEN = "invalid string; its closing quote is missing"
+UNCLOSED = "invalid string; its closing quote is missing"
 COMMA = "missing comma between array elements, expected `,` or `]`"
 ODD_QUOTES = "the line has an odd number of double quotes"
 OF_PORT = "a table [[port]] or of a host's file, and not of a router's file itself"
@@ -227,11 +227,11 @@ ROUTER_FILES = [
     (WIRE + "node = \"03:00:00:00:00:22\"\n", f"port 1: node: expected {STATION}"),
     (WIRE + "node = \"00:00:00:00:00:00\"\nswitch = 1\n", f"port 1: node: expected {STATION}"),
     (WIRE + "switch = \"true\"\n", f"port 1: switch: expected true or false{NO_QUOTES}"),
-    (changed(PORT, "network", '"00000011'), f"line {1 + len(without(PORT, 'network').splitlines())}: {OPEN}"),
-    (changed(PORT, "network", "'00000011"), f"line {1 + len(without(PORT, 'network').splitlines())}: {OPEN}"),
+    (changed(PORT, "network", '"00000011'), f"line {1 + len(without(PORT, 'network').splitlines())}: {UNCLOSED}"),
+    (changed(PORT, "network", "'00000011"), f"line {1 + len(without(PORT, 'network').splitlines())}: {UNCLOSED}"),
     (changed(PORT, "network", '"0000\\u00001"'), f"port 1: network: expected {NETWORK}"),
     (changed(PORT, "network", '"0000\x01011"'), f"line {1 + len(without(PORT, 'network').splitlines())}: invalid string"),
-    (changed(PORT, "network", '"00000011').rstrip(), f"line {1 + len(without(PORT, 'network').splitlines())}: {OPEN}"),
+    (changed(PORT, "network", '"00000011').rstrip(), f"line {1 + len(without(PORT, 'network').splitlines())}: {UNCLOSED}"),
     (changed(PORT, "peers", '["127.0.1.20, "127.0.1.21"]'), f"line {1 + len(without(PORT, 'peers').splitlines())}: {COMMA}; {ODD_QUOTES}"),
     (changed(PORT, "peers", '["127.0.1.20" "127.0.1.21"]'), f"line {1 + len(without(PORT, 'peers').splitlines())}: {COMMA}"),
     (PORT + SECOND.replace("[[port]]\n", ""), f"line {1 + len(PORT.splitlines())}: duplicate key; each port begins with a line [[port]]"),
@@ -308,7 +308,7 @@ HOST_FILES = [
     (changed(HOST, "router", '"0.0.0.0"'), f"router: expected {ROUTER}"),
     (changed(HOST, "socket", '"0000"'), f"socket: expected {SOCKET}"),
     (changed(HOST, "socket", "4002"), f"socket: expected {SOCKET}{QUOTED}"),
-    (changed(HOST, "socket", '"4002'), f"line {len(HOST.splitlines())}: {OPEN}"),
+    (changed(HOST, "socket", '"4002'), f"line {len(HOST.splitlines())}: {UNCLOSED}"),
     (HOST + 'socket = "4003"\n', f"line {1 + len(HOST.splitlines())}: duplicate key"),
     (HOST + "port = 213\n", "port is a key of a router's file, and this command reads a host's file; the UDP port is udp_port"),
     (changed(HOST, "udp_port", "-1"), f"udp_port: expected {NUMBER}"),
@@ -641,7 +641,8 @@ CHECKED = [
      ["socket 4002 network 00000011 node 00007f000114 udp 127.0.1.20:20999",
       "it.toml: router 127.0.1.1, buffers 1024, peers 3, routers 2, allow 1"]),
     ("listen", HOST + "peers = []\nrouters = []\nallow = []\n",
-     ["socket 4002 network 00000011 node 00007f000114 udp 127.0.1.20:20999", "it.toml: router 127.0.1.1, buffers 1024, allow 0"]),
+     ["socket 4002 network 00000011 node 00007f000114 udp 127.0.1.20:20999", "allow is empty: nobody can connect",
+      "it.toml: router 127.0.1.1, buffers 1024, allow 0"]),
     ("listen", HOST + 'peers = ["0.1.2.3", "1.2.3.4", "223.1.2.3", "224.0.0.1", "255.255.255.255", "224.0.0.1"]\n',
      ["socket 4002 network 00000011 node 00007f000114 udp 127.0.1.20:20999", "peer 0.1.2.3 is not a usable unicast address",
       "peer 224.0.0.1 is not a usable unicast address", "peer 255.255.255.255 is not a usable unicast address",
