@@ -9,6 +9,7 @@ mod words;
 
 use build::{COMMIT, TOOLCHAIN};
 use clap::error::ErrorKind;
+use commands::{CHECK, IPXNET, UDP};
 use ipx_config::{Target, check_site};
 use ipx_host::{check_host, do_listen, do_send};
 use ipx_inspect::{do_check, do_hop, do_show, do_show_frames, tell_no_memory};
@@ -108,6 +109,32 @@ fn do_task(rt: &HostRuntime, task: Task<'_>) -> Result<u8, u8> {
     }
 }
 
+/// Whether a word has only digits, as a port.
+fn is_number(word: &str) -> bool {
+    word.bytes().all(|byte| byte.is_ascii_digit())
+}
+
+/// What helps with an argument that some try.
+fn tip_for(words: &[String]) -> Option<&'static str> {
+    match words {
+        [_, command, word] if command.as_str() == CHECK && !word.as_bytes().starts_with(b"-") => {
+            Some(
+                "tip: ipx route --check FILE, or ipx listen --check FILE, checks a configuration file",
+            )
+        }
+        [_, command, word] if is_number(word) && matches!(command.as_str(), IPXNET | UDP) => {
+            Some("tip: write --port before a port, such as --port 2130")
+        }
+        _ => None,
+    }
+}
+
+fn tell_tip(rt: &HostRuntime, words: &[String]) {
+    if let Some(tip) = tip_for(words) {
+        let _ = eprintln!(rt; "{tip}");
+    }
+}
+
 /// Reports why the words ask for no command, and returns the exit status for it. After the version
 /// `--verbose` adds what the program was built with.
 fn tell_usage(rt: &HostRuntime, words: &[String]) -> u8 {
@@ -116,6 +143,9 @@ fn tell_usage(rt: &HostRuntime, words: &[String]) -> u8 {
         return tell_no_memory(&mut io::writer(rt));
     }
     let _ = eprint!(rt; "{error}");
+    if error.kind() == ErrorKind::UnknownArgument {
+        tell_tip(rt, words);
+    }
     let is_verbose = words.iter().any(|word| word.as_str() == "--verbose");
     if is_verbose && error.kind() == ErrorKind::DisplayVersion {
         let _ = eprintln!(rt; "commit: {COMMIT}\ntoolchain: {TOOLCHAIN}");
