@@ -243,8 +243,8 @@ ROUTER_FILES = [
 # So of routes and services by hand, behind a port.
 ROUTER_FILES += [(TWO_PEERS + text, line) for text, line in (
     ("route = 1\n", f"port 1: unknown key route: {PORT_KEYS}"),
-    (ROUTE * 257, f"route: expected {ROUTES}"),
-    (SERVICE * 257, f"service: expected {SERVICES}"),
+    (ROUTE * 257, f"route: expected {ROUTES}; {MANY}"),
+    (SERVICE * 257, f"service: expected {SERVICES}; {MANY}"),
     (ROUTE + "peers = []\n", f"route 1: unknown key peers: {ROUTE_KEYS}"),
     (ROUTE + 'next = "127.0.1.20"\n', "route 1: `next` is now `next_hop`"),
     (ROUTE + SERVICE + 'at = "a"\n', "service 1: `at` is now `ipx_address`"),
