@@ -4,7 +4,6 @@ use Rattle.std.specs.Prelude.{◌&&◌, nat_lt, if◌then◌else◌}
 use Rattle.std.specs.declared.net.socket_addr.SocketAddrV4.{SocketAddrV4}
 use Rattle.std.proofs.lemmas.Bool.{and_parts}
 use Rattle.std.proofs.lemmas.List.{length-append}
-use Rattle.ipxnet_server.specs.declared.ask_times.NoteCause.{NoteCause}
 use Rattle.ipxnet_server.specs.declared.ask_times.NoteCause.TheVariants.{Restart}
 use Rattle.ipxnet_server.specs.declared.noted.Noted.{Noted}
 use Rattle.ipxnet_server.specs.AskTimes.{first_ask_of, second_ask_of}

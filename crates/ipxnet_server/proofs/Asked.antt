@@ -187,7 +187,7 @@ heard_pinged l from p size now =
 pub given_pinged : (given : Result Recipients ServerDrop) (now : ℕ) (l : ServerView) → (server_giving given now l).pinged ≡ l.pinged
 given_pinged given now l = giving_keeps (λ (v : ServerView). v.pinged) (λ k f c d n. refl) given now l
 
-again_pinged : (b : Bool) (place : SocketAddrV4) (now : ℕ) (l : ServerView) → (if b then l else record l { noted = places_noted_again place now l.noted }).pinged ≡ l.pinged
+pub again_pinged : (b : Bool) (place : SocketAddrV4) (now : ℕ) (l : ServerView) → (if b then l else record l { noted = places_noted_again place now l.noted }).pinged ≡ l.pinged
 again_pinged true place now l = refl
 again_pinged false place now l = refl
 

@@ -1,6 +1,6 @@
 -- How often a client's floods are passed on.
 use Rattle.std.proofs.Common.{◌≡◌, ◌≤◌, ◌<◌, ◌∙◌, ℕ, zero, suc, ◌+◌, ◌-◌, ◌*◌, Bool, true, false, not, cond, List, [], ◌∷◌, ◌++◌, Option, Some, None, filter, max, arith, refl, ap, subst}
-use Rattle.std.specs.Prelude.{◌&&◌, Result, Ok, Err, is_some, nat_le, nat_lt, if◌then◌else◌}
+use Rattle.std.specs.Prelude.{◌&&◌, ◌||◌, Result, Ok, Err, is_some, nat_le, nat_lt, if◌then◌else◌}
 use Rattle.std.proofs.Math.Nat.{mul-le-mul_left, mul-sub}
 use Rattle.std.proofs.lemmas.Bool.{and_parts, both_ways, leb-true}
 use Rattle.std.proofs.lemmas.Bool.Decides.{nat_tests}
@@ -20,8 +20,9 @@ use Rattle.ipxnet_server.specs.Flooders.{flood_limit, flooder_back, flooders_aft
 use Rattle.ipxnet_server.specs.ServerClients.{are_one_place, client_at}
 use Rattle.ipxnet_server.specs.ServerFloods.{is_client_flood, is_client_limited, is_port_busy, limited_hears, packet_gives, server_flooding, server_giving, server_limiting, server_rate_limiting, server_unlimited, unlimited_hears}
 use Rattle.ipxnet_server.specs.ServerHears.{ServerView, makes_client, server_admitting, server_aged, server_dropping, server_hearing, server_learned, server_met, takers_of}
-use Rattle.ipxnet_server.specs.NotedPlaces.{places_noted}
-use Rattle.ipxnet_server.specs.ServerRuns.{Datagram, NoPacket, OfCore, ServerCall, Turn, server_after, time_of}
+use Rattle.ipxnet_server.specs.NotedPlaces.{places_noted, places_noted_again}
+use Rattle.ipxnet_server.specs.PeerServers.{is_joined_place}
+use Rattle.ipxnet_server.specs.ServerRuns.{Again, Datagram, NoPacket, OfCore, ServerCall, Turn, server_after, time_of}
 use Rattle.ipxnet_server.proofs.Asked.{InLine, from_start}
 use Rattle.ipxnet_server.proofs.Once.{same_place}
 use Rattle.ipxnet_server.proofs.Still.{one_place}
@@ -134,6 +135,10 @@ given_tokens : (given : Result Recipients ServerDrop) (now : ℕ) (l : ServerVie
 given_tokens (Ok takers) now l = refl
 given_tokens (Err drop) now l = refl
 
+again_tokens : (b : Bool) (from : SocketAddrV4) (now : ℕ) (l : ServerView) → (if b then l else record l { noted = places_noted_again from now l.noted }).flooders ≡ l.flooders
+again_tokens true from now l = refl
+again_tokens false from now l = refl
+
 call_grows : (place : SocketAddrV4) (l : ServerView) (call : ServerCall) → flooder_back place l.flooders ≤ max (flooder_back place (server_after l call).flooders) (bucket_clock flood_limit (time_of call))
 call_grows place l (Datagram from p size now) =
     let u : ServerView = server_unlimited l from p size now in
@@ -144,6 +149,7 @@ call_grows place l (NoPacket fault now) = omega arith
 call_grows place l (OfCore node header size now) =
     omega (arith, ap (flooder_back place) (given_tokens (packet_gives l node header size now) now (server_aged now l)))
 call_grows place l (Turn now) = omega arith
+call_grows place l (Again from now) = omega (arith, ap (flooder_back place) (again_tokens (is_some (client_at from l.clients) || is_joined_place from l.routers) from now l))
 
 -- a flood that is passed on took a token of its client
 Took : SocketAddrV4 → ℕ → List Flooder → List Flooder → Type 0
@@ -200,6 +206,7 @@ is_taken place a b l (Datagram from p size now) passes =
 is_taken place a b l (NoPacket fault now) passes = cc
 is_taken place a b l (OfCore node header size now) passes = cc
 is_taken place a b l (Turn now) passes = cc
+is_taken place a b l (Again from now) passes = cc
 
 -- ---- any calls
 

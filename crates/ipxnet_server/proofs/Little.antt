@@ -14,15 +14,17 @@ use Rattle.ipxnet_server.specs.declared.drops.ServerDrop.{ServerDrop}
 use Rattle.ipxnet_server.specs.declared.noted.Noted.{Noted}
 use Rattle.ipxnet_server.specs.declared.port.ServerPort.{ServerPort}
 use Rattle.ipxnet_server.specs.declared.recipients.Recipients.{Recipients}
-use Rattle.ipxnet_server.specs.NotedPlaces.{is_noted, is_noted_at, is_to_be_asked, max_noted, note_that_goes, noted_but, noted_with, places_noted}
+use Rattle.ipxnet_server.specs.declared.ask_times.NoteCause.TheVariants.{Registration, Restart}
+use Rattle.ipxnet_server.specs.AskTimes.{first_ask_of, second_ask_of}
+use Rattle.ipxnet_server.specs.NotedPlaces.{has_note_room, is_noted, is_noted_at, is_to_be_asked, max_noted, note_that_goes, noted_again, noted_but, noted_with, places_noted, places_noted_again}
 use Rattle.ipxnet_server.specs.PeerServers.{is_joined_place}
 use Rattle.ipxnet_server.specs.Pings.{asks_by, is_asked, is_pinged}
 use Rattle.ipxnet_server.specs.ServerClients.{are_one_place, client_at, is_client_at}
 use Rattle.ipxnet_server.specs.ServerFloods.{limited_hears, packet_gives, packet_hears, server_heard, server_unlimited, unlimited_hears}
 use Rattle.ipxnet_server.specs.ServerHears.{ServerView, answer_of, is_joined_taker, is_registration, is_taker, joined_server, makes_client, registration_hears, joined_hears, server_admitting, server_aged, server_hearing, server_hears, server_hears_from, server_learned, server_met, server_pinging, stranger_drop, stranger_hears, takers_of}
-use Rattle.ipxnet_server.specs.ServerRuns.{Datagram, NoPacket, OfCore, ServerCall, Turn, server_after, shows_node, time_of}
-use Rattle.ipxnet_server.specs.Unshown.{WhoShowsNothingGetsLittle, all_sent_to, given_to_place, one_if, reaches_place, registers_from, registrations_from, sent_to}
-use Rattle.ipxnet_server.proofs.Asked.{InLine, from_start, heard_pinged, given_pinged}
+use Rattle.ipxnet_server.specs.ServerRuns.{Again, Datagram, NoPacket, OfCore, ServerCall, Turn, server_after, shows_node, time_of}
+use Rattle.ipxnet_server.specs.Unshown.{WhoShowsNothingGetsLittle, all_sent_to, given_to_place, is_again_at, one_if, reaches_place, registers_from, registrations_from, sent_to, times_again}
+use Rattle.ipxnet_server.proofs.Asked.{InLine, from_start, heard_pinged, again_pinged, given_pinged}
 use Rattle.ipxnet_server.proofs.Limits.{giving_keeps, limiting_keeps}
 use Rattle.ipxnet_server.proofs.PingTimes.{asked_later, two_at_most}
 use Rattle.ipxnet_server.proofs.Showed.{after_has, after_port, met_has}
@@ -63,6 +65,11 @@ unfolding due_of
 two_due true asked = omega arith
 two_due false asked = omega arith
 
+one_due : (b : Bool) (asked : ℕ) → due_of b asked ≤ 2 * (if b then 1 else 0)
+unfolding due_of
+one_due true asked = omega arith
+one_due false asked = omega arith
+
 due_but : (o : Option Noted) (place : SocketAddrV4) (t : ℕ) (ns : List Noted) → due place t (noted_but o ns) ≤ due place t ns
 due_but None place t ns = omega arith
 due_but (Some n) place t ns = due_filter (λ k. not (is_noted_at n.place k)) place t ns
@@ -72,7 +79,7 @@ due_with : (from place : SocketAddrV4) (now t : ℕ) (ns : List Noted) → due p
 due_with from place now t ns =
     let kept : List Noted = noted_but (note_that_goes from ns) ns in
     let k = length kept + 1 - max_noted in
-    let new : Noted = record { place = from; since = now } in
+    let new : Noted = record { place = from; since = now; cause = Registration } in
     omega (arith, due_push place t new (drop k kept), due_drop k place t kept, due_but (note_that_goes from ns) place t ns, two_due (are_one_place from place) (asks_by t new))
 
 due_placed : (b : Bool) (from place : SocketAddrV4) (now t : ℕ) (ns : List Noted) → due place t (if b then ns else noted_with from now ns) ≤ due place t ns + (if are_one_place from place then 2 else 0)
@@ -82,6 +89,17 @@ due_placed false from place now t ns = due_with from place now t ns
 due_noting : (b : Bool) (from place : SocketAddrV4) (now t : ℕ) (l : ServerView) → due place t (if b then l else record l { noted = places_noted from now l.noted }).noted ≤ due place t l.noted + (if are_one_place from place then 2 else 0)
 due_noting true from place now t l = omega arith
 due_noting false from place now t l = due_placed (is_noted from l.noted) from place now t l.noted
+
+due_last : (b room : Bool) (from place : SocketAddrV4) (now t : ℕ) (ns : List Noted) → due place t (if not b && room then noted_again from now ns else ns) ≤ due place t ns + 2 * (if are_one_place from place then 1 else 0)
+due_last true room from place now t ns = omega arith
+due_last false false from place now t ns = omega arith
+due_last false true from place now t ns =
+    let new : Noted = record { place = from; since = now; cause = Restart (length ns) } in
+    omega (arith, due_push place t new ns, one_due (are_one_place from place) (asks_by t new))
+
+due_again : (b : Bool) (from place : SocketAddrV4) (now t : ℕ) (l : ServerView) → due place t (if b then l else record l { noted = places_noted_again from now l.noted }).noted ≤ due place t l.noted + 2 * (if are_one_place from place then 1 else 0)
+due_again true from place now t l = omega arith
+due_again false from place now t l = due_last (is_noted from l.noted) (has_note_room from l.noted) from place now t l.noted
 
 due_told : (told : Option Node) (from place : SocketAddrV4) (now t : ℕ) (l : ServerView) → due place t (server_learned told from now l).noted ≤ due place t l.noted + (if are_one_place from place then 2 else 0)
 due_told None from place now t l = omega arith
@@ -119,8 +137,8 @@ turn_due : (place : SocketAddrV4) (before now : ℕ) (ns : List Noted) → befor
 unfolding due
 turn_due place before now [] le = omega arith
 turn_due place before now (n ∷ ns) le =
-    let more : asks_by before n ≤ asks_by now n = asked_later (before - n.since) (now - n.since) (omega (arith, le)) in
-    let one = asked_of (is_noted_at place n) (asks_by before n) (asks_by now n) (nat_lt (asks_by before n) (asks_by now n)) refl more (two_at_most (now - n.since)) in
+    let more : asks_by before n ≤ asks_by now n = asked_later (first_ask_of n.cause) (second_ask_of n.cause) (before - n.since) (now - n.since) (omega (arith, le)) in
+    let one = asked_of (is_noted_at place n) (asks_by before n) (asks_by now n) (nat_lt (asks_by before n) (asks_by now n)) refl more (two_at_most (first_ask_of n.cause) (second_ask_of n.cause) (now - n.since)) in
     let f : Noted → ℕ = λ k. cond (is_noted_at place k && is_asked (record { before = before; now = now }) k) 1 0 in
     omega (arith, one, turn_due place before now ns le, sum_by-cons f n ns)
 
@@ -184,6 +202,10 @@ met_routers : (b : Bool) (from : SocketAddrV4) (now : ℕ) (l : ServerView) → 
 met_routers true from now l = refl
 met_routers false from now l = refl
 
+again_routers : (b : Bool) (from : SocketAddrV4) (now : ℕ) (l : ServerView) → (if b then l else record l { noted = places_noted_again from now l.noted }).routers ≡ l.routers
+again_routers true from now l = refl
+again_routers false from now l = refl
+
 after_routers : (l : ServerView) (call : ServerCall) → (server_after l call).routers ≡ l.routers
 after_routers l (Datagram from p size now) =
     let aged : ServerView = server_aged now l in
@@ -194,6 +216,7 @@ after_routers l (NoPacket fault now) = refl
 after_routers l (OfCore node header size now) =
     giving_keeps (λ (v : ServerView). v.routers) (λ k f c d n. refl) (packet_gives l node header size now) now (server_aged now l)
 after_routers l (Turn now) = refl
+after_routers l (Again from now) = again_routers (is_some (client_at from l.clients) || is_joined_place from l.routers) from now l
 
 after_pinged : (l : ServerView) (call : ServerCall) (t : ℕ) → l.pinged ≤ t → t ≤ time_of call → (server_after l call).pinged ≤ time_of call
 after_pinged l (Datagram from p size now) t early le = omega (arith, early, le, heard_pinged l from p size now)
@@ -201,6 +224,8 @@ after_pinged l (NoPacket fault now) t early le = omega (arith, early, le)
 after_pinged l (OfCore node header size now) t early le =
     omega (arith, early, le, given_pinged (packet_gives l node header size now) now (server_aged now l))
 after_pinged l (Turn now) t early le = omega arith
+after_pinged l (Again from now) t early le =
+    omega (arith, early, le, again_pinged (is_some (client_at from l.clients) || is_joined_place from l.routers) from now l)
 
 next_stranger : (place : SocketAddrV4) (t : ℕ) (l : ServerView) (call : ServerCall) → IsStranger place t l → t ≤ time_of call → shows_node l.port place call ≡ false → IsStranger place (time_of call) (server_after l call)
 next_stranger place t l call (none, apart, early) le hidden = (
@@ -269,8 +294,11 @@ bound true false place l from p size now at is none apart hidden =
     let less : due place l.pinged met.noted ≤ due place l.pinged l.noted = omega (arith, due_met (makes_client aged from p.header size now) from place now l.pinged aged, due_filter (is_to_be_asked l.pinged) place l.pinged l.noted) in
     omega (arith, less, ap (due place l.pinged) noted, ap one_if none_answered)
 
+plus_none : (a b : ℕ) → a ≤ b → a ≤ b + 2 * 0
+plus_none a b le = omega (arith, le)
+
 step : (place : SocketAddrV4) (t : ℕ) (l : ServerView) (call : ServerCall) → IsStranger place t l → t ≤ time_of call → shows_node l.port place call ≡ false
-    → sent_to place l call + due place (server_after l call).pinged (server_after l call).noted ≤ due place l.pinged l.noted + 3 * one_if (registers_from place call)
+    → sent_to place l call + due place (server_after l call).pinged (server_after l call).noted ≤ due place l.pinged l.noted + 3 * one_if (registers_from place call) + 2 * one_if (is_again_at place call)
 step place t l (Datagram from p size now) (none, apart, early) le hidden =
     let call : ServerCall = Datagram from p size now in
     let after : ServerView = server_after l call in
@@ -278,7 +306,7 @@ step place t l (Datagram from p size now) (none, apart, early) le hidden =
     let most : Bound place l from p size now (are_one_place from place) (is_registration p.header size) = bound (are_one_place from place) (is_registration p.header size) place l from p size now refl refl none apart hidden in
     let kept : due place after.pinged after.noted ≡ due place l.pinged (server_unlimited l from p size now).noted =
     ap (λ (k : ℕ). due place k after.noted) (heard_pinged l from p size now) ∙ ap (due place l.pinged) (same_noted l from p size now) in
-    bounded place l from p size now (one_if (reaches_place after (takers_of (packet_hears l from p size now)) place)) (due place after.pinged after.noted) (ap one_if reached) kept most
+    plus_none _ _ (bounded place l from p size now (one_if (reaches_place after (takers_of (packet_hears l from p size now)) place)) (due place after.pinged after.noted) (ap one_if reached) kept most)
 step place t l (NoPacket fault now) (none, apart, early) le hidden = omega (arith, due_filter (is_to_be_asked l.pinged) place l.pinged l.noted)
 step place t l (OfCore node header size now) (none, apart, early) le hidden =
     let call : ServerCall = OfCore node header size now in
@@ -293,10 +321,15 @@ step place t l (Turn now) (none, apart, early) le hidden =
     let clients = none_pinged (is_client_at place) (is_pinged (record { before = l.pinged; now = now })) left.clients (still_none place l (Turn now) none hidden) in
     omega (arith, clients, turn_due place l.pinged now left.noted (omega (arith, early, le)), due_filter (is_to_be_asked l.pinged) place l.pinged l.noted)
 
+step place t l (Again from now) (none, apart, early) le hidden =
+    let b = is_some (client_at from l.clients) || is_joined_place from l.routers in
+    let after : ServerView = server_after l (Again from now) in
+    omega (arith, ap (λ (k : ℕ). due place k after.noted) (again_pinged b from now l), due_again b from place now l.pinged l)
+
 -- ---- any calls
 
 all_little : (place : SocketAddrV4) (port : ServerPort) (t : ℕ) (l : ServerView) (calls : List ServerCall) → IsStranger place t l → l.port ≡ port → InLine t calls → list_any (shows_node port place) calls ≡ false
-    → all_sent_to place l calls ≤ due place l.pinged l.noted + 3 * registrations_from place calls
+    → all_sent_to place l calls ≤ due place l.pinged l.noted + 3 * registrations_from place calls + 2 * times_again place calls
 unfolding InLine
 all_little place port t l [] is same line hidden = omega arith
 all_little place port t l (call ∷ calls) is same line hidden =

@@ -7,7 +7,7 @@ use Rattle.ipxnet_server.specs.Pings.{AreInOrder}
 use Rattle.ipxnet_server.specs.ServerClients.{are_one_place}
 use Rattle.ipxnet_server.specs.ServerFloods.{is_client_flood, packet_hears}
 use Rattle.ipxnet_server.specs.ServerHears.{ServerView}
-use Rattle.ipxnet_server.specs.ServerRuns.{Datagram, NoPacket, OfCore, ServerCall, Turn, server_after, time_of}
+use Rattle.ipxnet_server.specs.ServerRuns.{Again, Datagram, NoPacket, OfCore, ServerCall, Turn, server_after, time_of}
 
 -- from one time to another, what a client at an address sent is passed on as a flood
 abbrev pub passes_flood : SocketAddrV4 → ℕ → ℕ → ServerView → ServerCall → Bool
@@ -16,6 +16,7 @@ passes_flood place a b l (Datagram from p size now) = are_one_place from place &
 passes_flood place a b l (NoPacket fault now) = false
 passes_flood place a b l (OfCore node header size now) = false
 passes_flood place a b l (Turn now) = false
+passes_flood place a b l (Again from now) = false
 
 -- how many of these calls do so
 abbrev pub floods_passed : SocketAddrV4 → ℕ → ℕ → ServerView → List ServerCall → ℕ

@@ -68,7 +68,8 @@ pub fn clients_flood_seldom()
 {}
 
 /// An address from which no datagram shows its node gets at most three datagrams for each
-/// registration from there, whoever forged these, in any course of calls of a new server.
+/// registration from there, whoever forged these, and two for each time that it is noted again after
+/// a restart, in any course of calls of a new server.
 pub fn who_shows_nothing_gets_little()
     ensures { WhoShowsNothingGetsLittle }
 {}

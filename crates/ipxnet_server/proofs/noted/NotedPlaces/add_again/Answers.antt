@@ -1,4 +1,4 @@
-use Rattle.std.proofs.Common.{◌≡◌, ◌+◌, ℕ, true, List, [], ◌∷◌, ◌++◌, length, take, drop, sym, ap, subst, ◌∙◌, rules}
+use Rattle.std.proofs.Common.{◌≡◌, ℕ, true, List, ◌∷◌, ◌++◌, length, take, drop, sym, ap, subst, ◌∙◌, rules}
 use Rattle.std.specs.Vec.{vec_capacity}
 use Rattle.ipxnet_server.specs.declared.ask_times.NoteCause.TheVariants.{Restart}
 use Rattle.ipxnet_server.specs.declared.noted.Noted.{Noted}
