@@ -13,3 +13,4 @@ pub mod WireEnds
 pub mod WrittenStations
 pub mod StationFaults
 pub mod TemporaryNames
+pub mod PeerTexts

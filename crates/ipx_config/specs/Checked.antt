@@ -10,6 +10,8 @@ use Rattle.std.specs.Net.Socket.{v4_ip, v4_port}
 use Rattle.std.specs.declared.net.socket_addr.SocketAddrV4.{SocketAddrV4}
 use Rattle.std.specs.List.{before_first, flat_map, list_any}
 use Rattle.hex.specs.Hex.{encode_lower}
+use Rattle.ip_prefixes.specs.Prefixes.{network_of}
+use Rattle.ip_prefixes.specs.declared.prefix.Prefix.{Prefix as IpPrefix}
 use Rattle.ipx_carrier.specs.Mapping.{node_at}
 use Rattle.ipx_control.specs.declared.rip.packet.RipEntry.{RipEntry}
 use Rattle.ipx_control.specs.declared.sap.packet.ServiceEntry.{ServiceEntry}
@@ -17,6 +19,8 @@ use Rattle.ipx_router.specs.Classify.{is_node}
 use Rattle.ipx_tables.specs.declared.source.Source.{Source}
 use Rattle.ipx_inspect.specs.ShowLine.{address_text, word_text}
 use Rattle.ipx_table_dump.specs.TableText.{by_text, network_word}
+use Rattle.ipx_config.specs.declared.ipxnet_port.Peer.{Peer}
+use Rattle.ipx_config.specs.declared.ipxnet_port.Peer.TheVariants.{Host, Prefix}
 use Rattle.ipx_config.specs.declared.statics.StaticEntry.{StaticEntry}
 use Rattle.ipx_config.specs.declared.statics.StaticItem.{StaticItem}
 use Rattle.ipx_config.specs.declared.statics.StaticItem.TheVariants.{Route, Service}
@@ -204,13 +208,35 @@ node_remark whose p =
     if not (length p.join.items == 0) && (is_any p.address && is_node p.node (made_station p.address p.udp_port))
     then whose ++ codes "join with address \"any\" needs node: it must differ at each router\n" else []
 
+-- a prefix by its first address
+abbrev pub prefix_text : IpPrefix → List ℕ
+prefix_text p = dotted_text (network_of p) ++ (codes "/" ++ decimal p.bits)
+
+-- a line of it
+abbrev pub network_line : List ℕ → IpPrefix → List ℕ
+network_line whose p = whose ++ (codes "peers has all of " ++ (prefix_text p ++ codes "\n"))
+
+-- what is printed of a peer of an ipxnet port: a line of a prefix, nothing of one IP address
+abbrev pub prefix_line : List ℕ → IpPrefix → List ℕ
+prefix_line whose p = if p.bits == 32 then [] else network_line whose p
+
+-- a line of the name of a host
+abbrev pub host_line : List ℕ → List ℕ → List ℕ
+host_line whose name =
+    whose ++ (codes "peers has " ++ (name ++ codes ", which is looked up when the router starts\n"))
+
+abbrev pub peer_line : List ℕ → Peer → List ℕ
+peer_line whose (Prefix p) = prefix_line whose p
+peer_line whose (Host name) = host_line whose (string_bytes name)
+
 -- the remarks about the addresses that a port sends to, each after the words that say which port it is
 abbrev pub reached_remarks : List ℕ → PortConfig → List ℕ
 reached_remarks whose (Rfc1234 p) = each_after (peer_remark whose p.address) [] p.peers.items
 reached_remarks whose (Frames p) =
     each_after (ethernet_end_remark (whose ++ codes "remote") (place_of_kind (Frames p))) [] p.ends.items
-reached_remarks whose (Ipxnet p) = ignored_remark whose p.accept (length p.peers.items)
-    ++ (node_remark whose p ++ flat_map (joined_remark whose (place_of_kind (Ipxnet p))) p.join.items)
+reached_remarks whose (Ipxnet p) = flat_map (peer_line whose) p.peers.items
+    ++ (ignored_remark whose p.accept (length p.peers.items)
+    ++ (node_remark whose p ++ flat_map (joined_remark whose (place_of_kind (Ipxnet p))) p.join.items))
 
 -- the line of a port that follows earlier ones, and the remarks about it
 abbrev pub port_lines : List PortConfig → PortConfig → List ℕ

@@ -1,5 +1,5 @@
 -- An ipxnet port in the file of a router: a table `[[port]]`. Defined by this project.
-use Rattle.std.specs.Prelude.{Vec, ◌≡◌, ◌⊎◌, ℕ, List, [], None, true, false}
+use Rattle.std.specs.Prelude.{Vec, ◌≡◌, ◌⊎◌, ℕ, [], None, true, false}
 use Rattle.std.specs.Global.{Global}
 use Rattle.std.specs.declared.net.socket_addr.SocketAddrV4.{SocketAddrV4}
 use Rattle.toml.specs.Data.{Members, get_member}
@@ -12,20 +12,22 @@ use Rattle.ipx_config.specs.declared.site.Accept.{Accept}
 use Rattle.ipx_config.specs.declared.site.Accept.TheVariants as Who
 use Rattle.ipx_config.specs.declared.site.Directed.TheVariants as Directed
 use Rattle.ipx_config.specs.declared.ipxnet_port.IpxnetPortConfig.{IpxnetPortConfig}
+use Rattle.ipx_config.specs.declared.ipxnet_port.Peer.{Peer}
 use Rattle.ipx_config.specs.declared.site.Kind.TheVariants as Of
 use Rattle.ipx_config.specs.Fields.{Holds, HoldsOr, IsFault, IsMissing, IsRight, IsRightOr, IsStray, IsWrong}
+use Rattle.ipx_config.specs.IpxnetPeers.{ArePeersOf}
 use Rattle.ipx_config.specs.Keys.{first_unknown, ipxnet_keys, key_text}
-use Rattle.ipx_config.specs.Values.{AreAddressesOf, IsAccept, IsAnyOrAddress, IsCount, IsDirected, IsNetwork}
+use Rattle.ipx_config.specs.Values.{IsAccept, IsAnyOrAddress, IsCount, IsDirected, IsNetwork}
 use Rattle.ipx_config.specs.EthernetValues.{AreEthernetEnds, IsStation, are_places_distinct, made_station}
 
 -- the peers that may register; the key is required unless everybody may register
-abbrev pub ArePeersFor : Accept → Members → Vec (List ℕ) Global → Type 0
+abbrev pub ArePeersFor : Accept → Members → Vec Peer Global → Type 0
 ArePeersFor accept ms peers = ((accept ≡ Who.Any) × (get_member (key_text Key.Peers) ms ≡ None) × (peers.items ≡ []))
-    ⊎ Holds AreAddressesOf Key.Peers ms peers
+    ⊎ Holds ArePeersOf Key.Peers ms peers
 
 abbrev pub IsPeersFault : Accept → Members → ℕ → ConfigError → Type 0
 IsPeersFault accept ms table f = ((accept ≡ Who.Peers) × IsMissing Key.Peers ms table f)
-    ⊎ IsWrong AreAddressesOf Key.Peers ms table f
+    ⊎ IsWrong ArePeersOf Key.Peers ms table f
 
 -- the routers whose ipxnet servers are joined with this one: the places in the file, each once, or none
 abbrev pub AreJoinedRouters : Members → Vec SocketAddrV4 Global → Type 0
@@ -63,7 +65,7 @@ abbrev pub IsClientsFault : Members → ℕ → ConfigError → Type 0
 IsClientsFault ms table f = IsWrong (IsCount max_server_clients) Key.Clients ms table f
     ⊎ (IsRightOr (IsCount max_server_clients) Key.Clients ms × (IsWrong IsAccept Key.Accept ms table f
     ⊎ ((accept : Accept) × HoldsOr IsAccept Key.Accept ms Who.Peers accept × (IsPeersFault accept ms table f
-    ⊎ ((peers : Vec (List ℕ) Global) × ArePeersFor accept ms peers × IsLastFault ms table f)))))
+    ⊎ ((peers : Vec Peer Global) × ArePeersFor accept ms peers × IsLastFault ms table f)))))
 
 -- the first fault of the table: a name that is no key of this kind, followed by the keys in order
 abbrev pub IsIpxnetFault : ℕ → Members → ConfigError → Type 0

@@ -5,6 +5,7 @@ pub mod Fields
 pub mod EthernetValues
 pub mod Port
 pub mod PortKinds
+pub mod IpxnetPeers
 pub mod IpxnetTable
 pub mod EthernetTable
 pub mod StaticFields

@@ -3,7 +3,7 @@
 ghost use Rattle.std.specs.Prelude.{◌≡◌, ◌<◌, ◌≤◌, ◌++◌, ℕ, List, [], IfErr, IfOk, IsOkAnd, OnOk, length, string_bytes};
 ghost use Rattle.std.specs.Io.KnownBytes.{Appends};
 ghost use Rattle.std.specs.List.{flat_map};
-ghost use Rattle.ipx_config.specs.Checked.{count_text, each_after, file_line, file_name_text, ignored_remark, is_of_no_machine, joined_remark, node_remark, peer_remark, port_lines, reached_remarks, site_lines, status_text, ethernet_end_remark};
+ghost use Rattle.ipx_config.specs.Checked.{count_text, each_after, file_line, file_name_text, ignored_remark, is_of_no_machine, joined_remark, node_remark, peer_line, peer_remark, port_lines, reached_remarks, site_lines, status_text, ethernet_end_remark};
 ghost use Rattle.ipx_config.specs.Loading.{IsFileText};
 ghost use Rattle.ipx_config.specs.Site.{IsSiteText};
 ghost use Rattle.ipx_config.specs.declared.site.RouterConfig.{RouterConfig as ASiteFile};
@@ -12,6 +12,7 @@ use crate::escaped::Escaped;
 use crate::ethernet_values::station_at;
 use crate::files::{load_site, tell_no_memory};
 use crate::ipxnet_port::IpxnetPortConfig;
+use crate::peer_lines::peers_to_lines;
 use crate::sameness::{is_same_ip, is_same_node};
 use crate::site::{Accept, PortConfig, RouterConfig};
 use crate::start_lines::{dotted, end_to_text, port_to_text};
@@ -155,8 +156,8 @@ fn node_to_remark(alloc: Global, whose: &str, port: &IpxnetPortConfig) -> Result
     Ok(String::new(alloc))
 }
 
-/// The remarks about an ipxnet port: about its list of peers, its node, and the routers it is joined
-/// to.
+/// The lines of the prefixes and names among the peers of an ipxnet port, and the remarks about its
+/// list of peers, its node, and the routers it is joined to.
 fn ipxnet_to_remarks(
     alloc: Global,
     whose: &str,
@@ -164,14 +165,16 @@ fn ipxnet_to_remarks(
     port: &IpxnetPortConfig,
 ) -> Result<String, AllocError>
     ensures { IfOk result (λ t. string_bytes t
-        ≡ ignored_remark whose.now port.now.accept (length port.now.peers.items)
+        ≡ flat_map (peer_line whose.now) port.now.peers.items
+        ++ (ignored_remark whose.now port.now.accept (length port.now.peers.items)
         ++ (node_remark whose.now port.now
-        ++ flat_map (joined_remark whose.now own) port.now.join.items)) }
+        ++ flat_map (joined_remark whose.now own) port.now.join.items))) }
 {
+    let peers = peers_to_lines(alloc, whose, &port.peers)?;
     let ignored = ignored_to_remark(alloc, whose, port)?;
     let node = node_to_remark(alloc, whose, port)?;
     let joined = join_to_remarks(alloc, whose, own, &port.join)?;
-    format!(in alloc; "{ignored}{node}{joined}")
+    format!(in alloc; "{peers}{ignored}{node}{joined}")
 }
 
 /// The remarks about joined routers: one line for each that is the port's own place.

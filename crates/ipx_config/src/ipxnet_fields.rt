@@ -11,10 +11,10 @@ use crate::fault::ConfigError;
 use crate::fields::{
     accept_in, any_or_address_in, count_in, directed_in, held, network_in, refuse_stray,
 };
-use crate::ipxnet_port::IpxnetPortConfig;
+use crate::ipxnet_peers::peers_of;
+use crate::ipxnet_port::{IpxnetPortConfig, Peer};
 use crate::key::Key;
 use crate::site::{Accept, Kind};
-use crate::values::parse_peers;
 use ipx_carrier::UDP_PORT;
 use std::alloc::Global;
 use std::net::SocketAddrV4;
@@ -31,7 +31,7 @@ fn registering_in(
     table: &Table,
     number: usize,
     accept: Accept,
-) -> Result<Vec<[u8; 4]>, ConfigError>
+) -> Result<Vec<Peer>, ConfigError>
     ensures peers { IfOk result (ArePeersFor accept (table_view table.now)) }
     ensures fault { IfErr result (λ f. (f ≡ ConfigError.OutOfMemory)
         ⊎ IsPeersFault accept (table_view table.now) number f) }
@@ -42,7 +42,7 @@ fn registering_in(
             Accept::Peers => Err(ConfigError::Missing(number, Key::Peers)),
         };
     };
-    match parse_peers(alloc, value)? {
+    match peers_of(alloc, value)? {
         Some(peers) => Ok(peers),
         None => Err(ConfigError::Wrong(number, Key::Peers)),
     }

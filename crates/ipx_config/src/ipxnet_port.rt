@@ -4,8 +4,18 @@ ghost use Rattle.std.specs.Prelude.{◌≤◌};
 ghost use Rattle.ipxnet_server.specs.ServerClients.{max_server_clients};
 
 use crate::site::{Accept, Directed};
+use ip_prefixes::Prefix;
 use ipx_wire::{Network, Node};
 use std::net::SocketAddrV4;
+
+/// Who may register at an ipxnet port.
+#[derive(Drop)]
+pub enum Peer {
+    /// The IP addresses in a prefix.
+    Prefix(Prefix),
+    /// The IP addresses of the host with this name, when the router starts.
+    Host(String),
+}
 
 /// The configuration of an ipxnet port of a router.
 #[derive(Drop)]
@@ -24,8 +34,8 @@ pub struct IpxnetPortConfig {
     pub clients: u16,
     /// Whether only its peers may register, or everybody.
     pub accept: Accept,
-    /// The IP addresses that may register, if not everybody may.
-    pub peers: Vec<[u8; 4]>,
+    /// Who may register, if not everybody may.
+    pub peers: Vec<Peer>,
     /// The routers whose ipxnet servers form one network with this one.
     pub join: Vec<SocketAddrV4>,
     pub directed: Directed,

@@ -141,6 +141,11 @@ fn right_in(table: usize, key: Key) -> &'static str {
         (1..=LAST_PORT, Key::Address) => {
             "an IPv4 address of this machine, such as \"192.0.2.10\", or for kind \"ipxnet\" also \"any\""
         }
+        (1..=LAST_PORT, Key::Peers) => {
+            "a list of IP addresses, such as [\"198.51.100.7\", \"203.0.113.9\"], and for kind \
+             \"ipxnet\" also prefixes of 8 to 32 bits and names of hosts, such as \
+             [\"203.0.113.0/24\", \"friend.example\"]"
+        }
         (0, Key::Peers) => {
             "a list of at most 256 IP addresses, such as [\"198.51.100.7\", \"203.0.113.9\"]"
         }

@@ -1,14 +1,14 @@
 -- Where the sockets of ipxnet servers are bound, where a datagram goes and which one comes, and whether its
 -- source address is accepted. Defined by this project: a datagram over IPv6 is never accepted.
-use Rattle.std.specs.Prelude.{◌≡◌, ℕ, ℤ, List, Bool, true, false, if◌then◌else◌, Option, Some, None, Result, Ok, Err, IfSome, is_some, map, nat_eq, slice_get, slice_set}
-use Rattle.std.specs.Cmp.Lexicographic.{pointwise}
-use Rattle.std.specs.List.{list_any}
+use Rattle.std.specs.Prelude.{◌≡◌, ℕ, ℤ, List, Bool, true, false, if◌then◌else◌, Option, Some, None, Result, Ok, Err, IfSome, is_some, map, slice_get, slice_set}
 use Rattle.std.specs.Option.{option_map}
 use Rattle.std.specs.Net.Addr.{ipv4_octets}
 use Rattle.std.specs.Net.Socket.{v4_ip}
 use Rattle.std.specs.declared.net.socket_addr.SocketAddr.{SocketAddr}
 use Rattle.std.specs.declared.net.socket_addr.SocketAddr.TheVariants.{V4, V6}
 use Rattle.std.specs.declared.net.socket_addr.SocketAddrV4.{SocketAddrV4}
+use Rattle.ip_prefixes.specs.Prefixes.{is_in_some}
+use Rattle.ip_prefixes.specs.declared.prefix.Prefix.{Prefix}
 use Rattle.ipx_carrier.specs.declared.fault.DeviceFault.{DeviceFault}
 use Rattle.ipx_carrier.specs.declared.placed_socket.PlacedSocket.{PlacedSocket}
 use Rattle.ipx_carrier.specs.ReadySet.{IsFilteredOrAnswer, is_come, is_port_marked, marks_after}
@@ -19,22 +19,22 @@ use Rattle.ipx_ipxnet_ports.specs.declared.place_sockets.DatagramCame.{DatagramC
 use Rattle.ipx_ipxnet_ports.specs.declared.sockets.ServerSocket.{ServerSocket}
 use Rattle.ipx_ipxnet_ports.specs.declared.sockets.ServerSockets.{ServerSockets}
 
--- the IP addresses that are named; None means any
-abbrev pub listed_ips : Allow → Option (List (List ℕ))
-listed_ips Allowed.Any = None
-listed_ips (Allowed.List ips) = Some ips.items
+-- the prefixes that are named; None means that every IP address is in one
+abbrev pub listed_prefixes : Allow → Option (List Prefix)
+listed_prefixes Allowed.Any = None
+listed_prefixes (Allowed.List prefixes) = Some prefixes.items
 
--- those from which a socket accepts datagrams
-abbrev pub ips_heard : ServerSocket → Option (List (List ℕ))
-ips_heard s = listed_ips s.allow
+-- those from whose IP addresses a socket accepts datagrams
+abbrev pub prefixes_heard : ServerSocket → Option (List Prefix)
+prefixes_heard s = listed_prefixes s.allow
 
-abbrev pub is_ip_heard : Option (List (List ℕ)) → List ℕ → Bool
+abbrev pub is_ip_heard : Option (List Prefix) → List ℕ → Bool
 is_ip_heard None ip = true
-is_ip_heard (Some ips) ip = list_any (λ heard. pointwise nat_eq heard ip) ips
+is_ip_heard (Some prefixes) ip = is_in_some prefixes ip
 
 -- the source address of a datagram, if a socket accepts it: it is one of IPv4, and its IP address is accepted
 abbrev pub place_heard : ServerSocket → SocketAddr → Option SocketAddrV4
-place_heard s (V4 a) = if is_ip_heard (ips_heard s) (ipv4_octets (v4_ip a)) then Some a else None
+place_heard s (V4 a) = if is_ip_heard (prefixes_heard s) (ipv4_octets (v4_ip a)) then Some a else None
 place_heard s (V6 a) = None
 
 -- the IP address of a sender, if it is of IPv4

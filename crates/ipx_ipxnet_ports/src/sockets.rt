@@ -8,7 +8,7 @@ ghost use Rattle.ipx_carrier.specs.Counting.{raised};
 ghost use Rattle.ipx_carrier.specs.Readiness.{AsksPortWithMark};
 ghost use Rattle.ipx_carrier.specs.ReadySet.{is_port_marked};
 ghost use Rattle.ipx_carrier.specs.Traces.{Got, TriesToReceive};
-ghost use Rattle.ipx_ipxnet_ports.specs.ServerAddresses.{AsksMarkedPort, RefusesToPlace, SendsToPlace, bound_places, ips_heard, ipv4_of_place, is_ip_heard, listed_ips, place_heard, server_fds, with_place};
+ghost use Rattle.ipx_ipxnet_ports.specs.ServerAddresses.{AsksMarkedPort, RefusesToPlace, SendsToPlace, bound_places, prefixes_heard, ipv4_of_place, is_ip_heard, listed_prefixes, place_heard, server_fds, with_place};
 ghost use Rattle.ipx_ipxnet_ports.specs.PlaceTraffic.{failures_with};
 
 use crate::allow::Allow;
@@ -83,7 +83,7 @@ impl ServerSocket {
             × (result ≡ with_place self.old got) }
         ensures within { IfOk result (λ came. IfSome came (λ c. c.0 ≤ length room.old)) }
         ensures heard { IfOk result (λ came. IfSome came (λ c. IfSome c.2 (λ from.
-            is_ip_heard (ips_heard self.old) (ipv4_octets (v4_ip from)) ≡ true))) }
+            is_ip_heard (prefixes_heard self.old) (ipv4_octets (v4_ip from)) ≡ true))) }
         ensures room { length room.new ≡ length room.old }
         ensures faults { faults.old ≤ faults.new }
     {
@@ -118,8 +118,8 @@ impl ServerSockets {
     pub fn bind<R: Net>(&mut self, rt: &R, at: SocketAddrV4, allow: Allow) -> io::Result<()>
         ensures at { OnOk result (bound_places self.new.sockets.items
             ≡ bound_places self.old.sockets.items ++ at ∷ []) }
-        ensures bound { OnOk result (map ips_heard self.new.sockets.items
-            ≡ map ips_heard self.old.sockets.items ++ listed_ips allow ∷ []) }
+        ensures bound { OnOk result (map prefixes_heard self.new.sockets.items
+            ≡ map prefixes_heard self.old.sockets.items ++ listed_prefixes allow ∷ []) }
         ensures marks { OnOk result (self.new.marks ≡ self.old.marks ++ true ∷ []) }
         ensures refused { OnErr result ((self.new.sockets.items ≡ self.old.sockets.items)
             × (self.new.marks ≡ self.old.marks)) }
@@ -254,7 +254,7 @@ impl PlaceSockets for ServerSockets {
         // It came from an IP address that is accepted there.
         ensures heard { IfOk result (λ came. IfSome came (λ c.
             IfSome (slice_get self.old.sockets.items port)
-            (λ s. is_ip_heard (ips_heard s) (ipv4_octets (v4_ip c.from)) ≡ true))) }
+            (λ s. is_ip_heard (prefixes_heard s) (ipv4_octets (v4_ip c.from)) ≡ true))) }
         ensures filtered { self.old.nowhere ≤ self.new.nowhere }
         ensures goes_on { OnErr result ⊥ }
         ensures faults { self.old.faults ≤ self.new.faults }

@@ -1,6 +1,7 @@
 //! Sockets of this machine: a port, two players, and an unregistered sender.
 
 use crate::fixture::{PORT, REGISTRATION, servers, shows};
+use ip_prefixes::Prefix;
 use ipx_carrier::{DeviceFault, PacketSent, PortDriver, PortDriverFilters};
 use ipx_ipxnet_ports::{Allow, DatagramCame, PlaceSockets, ServerSockets, Servers};
 use ipx_wire::Node;
@@ -219,9 +220,12 @@ fn who_is_not_named_is_not_heard(rt: HostRuntime) -> Result<(), Fail> {
     let alloc = rt.alloc();
     let mut sender = bound(&rt, alloc, place(20_945))?;
     let mut sockets = ServerSockets::new(alloc);
-    let others = vec![in alloc; [127, 0, 0, 45]]?;
+    let others = vec![in alloc; Prefix::of_address([127, 0, 0, 45])]?;
     sockets.bind(&rt, place(20_946), Allow::List(others))?;
-    let both = vec![in alloc; [127, 0, 0, 45], [127, 0, 0, 44]]?;
+    let both = vec![in alloc;
+        Prefix::of_address([127, 0, 0, 45]),
+        Prefix::of_address([127, 0, 0, 44]),
+    ]?;
     sockets.bind(&rt, place(20_947), Allow::List(both))?;
     let mut room = [0; 1536];
     assert!(rt; sender.send(0, place(20_946), &REGISTRATION).is_ok());

@@ -18,3 +18,4 @@ pub mod ListedClients
 pub mod RanRounds
 pub mod TextRuns
 pub mod IndexMarks
+pub mod Registered

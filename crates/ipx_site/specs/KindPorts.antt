@@ -1,15 +1,13 @@
 -- The ports of a router's file by their kinds: RFC 1234, Ethernet and ipxnet, and their indices among those.
 -- Defined by this project.
-use Rattle.std.specs.Prelude.{◌≡◌, ℕ, List, [], ◌∷◌, ◌++◌, Option, length, map, Bool, true, false}
-use Rattle.std.specs.Net.Addr.{ipv4_octets}
-use Rattle.std.specs.Net.Socket.{v4_ip}
+use Rattle.std.specs.Prelude.{◌≡◌, ℕ, List, [], ◌∷◌, ◌++◌, length, map, Bool, true, false}
 use Rattle.ipx_ethernet.specs.declared.ethernet_port.EthernetPort.{EthernetPort}
 use Rattle.ipx_ethernet.specs.Heard.{SwitchView, new_switch}
 use Rattle.ipx_carrier.specs.Turns.{peers_of}
 use Rattle.ipxnet_server.specs.ServerHears.{ServerView, joined_server}
 use Rattle.ipxnet_server.specs.declared.port.Secret.{Secret}
 use Rattle.ipxnet_server.specs.declared.port.ServerPort.{ServerPort}
-use Rattle.ipx_ipxnet_ports.specs.ServerAddresses.{bound_places as bound_servers, ips_heard}
+use Rattle.ipx_ipxnet_ports.specs.ServerAddresses.{bound_places as bound_servers, prefixes_heard}
 use Rattle.ipx_ethernet_ports.specs.EthernetAddresses.{bound_places, remote_places}
 use Rattle.ipx_carrier.specs.declared.datagrams.Datagrams as OfDevice
 use Rattle.ipx_ipxnet_ports.specs.declared.place_sockets.PlaceSockets as OfPlaces
@@ -19,6 +17,7 @@ use Rattle.ipx_ethernet_ports.specs.declared.sockets.EthernetSockets.{EthernetSo
 use Rattle.ipx_sockets.specs.declared.source_filter.SourceFilter.{SourceFilter}
 use Rattle.ipx_sockets.specs.declared.sockets.UdpSockets.{UdpSockets}
 use Rattle.ipx_site.specs.PortsView.{SitePortsRun}
+use Rattle.ipx_site.specs.Registering.{MayRegisterAt}
 use Rattle.ipx_site.specs.declared.router_ports.PortIndex.{PortIndex}
 use Rattle.ipx_site.specs.declared.router_ports.PortIndex.TheVariants.{Datagrams, Ethernet, IpxnetServer}
 use Rattle.ipx_config.specs.declared.site.EthernetPortConfig.{EthernetPortConfig}
@@ -26,7 +25,7 @@ use Rattle.ipx_config.specs.declared.ipxnet_port.IpxnetPortConfig.{IpxnetPortCon
 use Rattle.ipx_config.specs.declared.site.PortConfig.{PortConfig}
 use Rattle.ipx_config.specs.declared.site.PortConfig.TheVariants.{Rfc1234, Frames, Ipxnet}
 use Rattle.ipx_sockets.specs.AccessLists.{AccessListPorts}
-use Rattle.ipx_config.specs.SitePorts.{heard_at_port, site_peers, udp_ports, router_port_of_kind}
+use Rattle.ipx_config.specs.SitePorts.{site_peers, udp_ports, router_port_of_kind}
 use Rattle.ipx_source_checks.specs.declared.failed_check.CheckedPort.{CheckedPort}
 use Rattle.ipx_config.specs.PortLists.{datagram_ports, ethernet_ports, ipxnet_ports, datagram_places, ethernet_places, ipxnet_places, end_places}
 
@@ -59,10 +58,6 @@ client_port_of secret p = record { network = p.network; own = p.node; secret = s
 abbrev pub server_of_port : Secret → IpxnetPortConfig → ServerView
 server_of_port secret p = joined_server (client_port_of secret p) p.clients p.join.items
 
--- the IP addresses from which clients may register: the named ones and those of joined routers, or all
-abbrev pub registering_at : IpxnetPortConfig → Option (List (List ℕ))
-registering_at p = heard_at_port p.accept (p.peers.items ++ map (λ r. ipv4_octets (v4_ip r)) p.join.items)
-
 -- the ports of a file as those of a router. An RFC 1234 port has its peers, its access list, and a socket
 -- with the UDP port of its peers. An Ethernet port has its switch, and a socket with the places of its
 -- remotes. An ipxnet port has its server, with this secret, and a socket that accepts those that may register.
@@ -78,7 +73,7 @@ pub record ArePortsBound {gd : OfDevice.Ghosts (SourceFilter UdpSockets)} {ge : 
   pub ethernet_bound : bound_places r.ethernet.sockets.ethernet.items ≡ ethernet_places (ethernet_ports ports)
   pub servers : r.servers.servers.items ≡ map (server_of_port secret) (ipxnet_ports ports)
   pub ipxnet_bound : bound_servers r.servers.sockets.sockets.items ≡ ipxnet_places (ipxnet_ports ports)
-  pub registering : map ips_heard r.servers.sockets.sockets.items ≡ map registering_at (ipxnet_ports ports)
+  pub registering : MayRegisterAt (ipxnet_ports ports) (map prefixes_heard r.servers.sockets.sockets.items)
 
 -- the ports for source checks: which of them are Ethernet ports
 abbrev pub is_ethernet : PortConfig → Bool

@@ -8,6 +8,7 @@ pub mod StaticNeighbours
 pub mod StaticsHold
 pub mod DropLog
 pub mod RouterMetrics
+pub mod Registering
 pub mod KindPorts
 pub mod RouterPorts
 pub mod EthernetTotals

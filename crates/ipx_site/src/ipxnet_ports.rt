@@ -1,18 +1,20 @@
 //! The ipxnet ports of a router: their sockets and their servers.
 
-ghost use Rattle.std.specs.Prelude.{◌≡◌, ◌++◌, ◌∷◌, [], IfOk, OnOk, map};
-ghost use Rattle.ipx_ipxnet_ports.specs.ServerAddresses.{bound_places, ips_heard, listed_ips};
-ghost use Rattle.ipx_site.specs.KindPorts.{client_port_of, server_of_port, registering_at};
+ghost use Rattle.std.specs.Prelude.{◌≡◌, ◌++◌, ◌∷◌, [], List, Option, IfOk, OnOk, map};
+ghost use Rattle.ipx_ipxnet_ports.specs.ServerAddresses.{bound_places, prefixes_heard};
+ghost use Rattle.ipx_site.specs.KindPorts.{client_port_of, server_of_port};
+ghost use Rattle.ipx_site.specs.Registering.{MayRegister, MayRegisterAt};
+ghost use Rattle.ip_prefixes.specs.declared.prefix.Prefix.{Prefix};
 ghost use Rattle.ipx_config.specs.PortLists.{ipxnet_places, ipxnet_ports};
 ghost use Rattle.ipx_carrier.specs.Traces.{v4_at};
-ghost use Rattle.std.specs.Net.Addr.{ipv4_octets};
-ghost use Rattle.std.specs.Net.Socket.{v4_ip};
 
+use crate::registering::registering;
 use ipx_carrier::socket_addr;
-use ipx_config::{Accept, IpxnetPortConfig, PortConfig};
-use ipx_ipxnet_ports::{Allow, ServerSockets, Servers};
+use ipx_config::{IpxnetPortConfig, PortConfig};
+use ipx_ipxnet_ports::{ServerSockets, Servers};
 use ipx_sockets::{BindFault, bind_error};
 use ipxnet_server::{IpxnetServer, Secret, ServerPort};
+use log::Log;
 use std::alloc::{AllocError, Global};
 use std::io::ErrorKind;
 use std::net::Net;
@@ -59,29 +61,8 @@ fn servers_of_ports(
     Ok(servers)
 }
 
-/// The IP addresses named at a port: those that may register, and those of joined routers.
-fn named_ips(alloc: Global, port: &IpxnetPortConfig) -> Result<Vec<[u8; 4]>, AllocError>
-    ensures { IfOk result (λ v. v.items ≡ port.now.peers.items ++ map (λ r. ipv4_octets (v4_ip r)) port.now.join.items) }
-{
-    let mut ips = Vec::from_slice(alloc, &port.peers)?;
-    for router in &port.join {
-        ips.push(router.ip().octets())?;
-    }
-    Ok(ips)
-}
-
-/// The IP addresses from which clients may register at a port.
-fn registering(alloc: Global, port: &IpxnetPortConfig) -> Result<Allow, AllocError>
-    ensures { IfOk result (λ allow. listed_ips allow ≡ registering_at port.now) }
-{
-    match port.accept {
-        Accept::Any => Ok(Allow::Any),
-        Accept::Peers => Ok(Allow::List(named_ips(alloc, port)?)),
-    }
-}
-
 /// Binds the socket of the port with this number, and adds it to those of earlier ports.
-fn bind_server<R: Net>(
+fn bind_server<R: Net + Log>(
     rt: &R,
     alloc: Global,
     sockets: &mut ServerSockets,
@@ -90,10 +71,11 @@ fn bind_server<R: Net>(
 ) -> Result<(), BindFault>
     ensures at { OnOk result (bound_places sockets.new.sockets.items
         ≡ bound_places sockets.old.sockets.items ++ v4_at port.now.address port.now.udp_port ∷ []) }
-    ensures registering { OnOk result (map ips_heard sockets.new.sockets.items
-        ≡ map ips_heard sockets.old.sockets.items ++ registering_at port.now ∷ []) }
+    ensures registering { OnOk result ((prefixes : Option (List Prefix)) × MayRegister port.now prefixes
+        × (map prefixes_heard sockets.new.sockets.items
+        ≡ map prefixes_heard sockets.old.sockets.items ++ prefixes ∷ [])) }
 {
-    let Ok(allow) = registering(alloc, port) else {
+    let Ok(allow) = registering(rt, alloc, number, port) else {
         return Err(BindFault::OutOfMemory);
     };
     let at = socket_addr(port.address, port.udp_port);
@@ -109,15 +91,15 @@ fn bind_server<R: Net>(
 
 /// Binds the sockets of the ipxnet ports. It stops at the first that cannot be bound and returns
 /// its port; then no socket stays bound.
-fn bind_servers<R: Net>(
+fn bind_servers<R: Net + Log>(
     rt: &R,
     alloc: Global,
     ports: &[PortConfig],
 ) -> Result<ServerSockets, BindFault>
     ensures at { IfOk result (λ s.
         bound_places s.sockets.items ≡ ipxnet_places (ipxnet_ports ports.now)) }
-    ensures registering { IfOk result (λ s. map ips_heard s.sockets.items
-        ≡ map registering_at (ipxnet_ports ports.now)) }
+    ensures registering { IfOk result (λ s.
+        MayRegisterAt (ipxnet_ports ports.now) (map prefixes_heard s.sockets.items)) }
 {
     let mut sockets = ServerSockets::new(alloc);
     for (place, port) in ports.iter().enumerate() {
@@ -130,7 +112,7 @@ fn bind_servers<R: Net>(
 
 /// The ipxnet ports among these, with their sockets bound and their servers, which make nodes of
 /// this secret.
-pub fn servers_of<R: Net>(
+pub fn servers_of<R: Net + Log>(
     rt: &R,
     alloc: Global,
     secret: Secret,
@@ -140,8 +122,8 @@ pub fn servers_of<R: Net>(
         ≡ map (server_of_port secret) (ipxnet_ports ports.now)) }
     ensures at { IfOk result (λ l.
         bound_places l.sockets.sockets.items ≡ ipxnet_places (ipxnet_ports ports.now)) }
-    ensures registering { IfOk result (λ l. map ips_heard l.sockets.sockets.items
-        ≡ map registering_at (ipxnet_ports ports.now)) }
+    ensures registering { IfOk result (λ l.
+        MayRegisterAt (ipxnet_ports ports.now) (map prefixes_heard l.sockets.sockets.items)) }
 {
     let Ok(servers) = servers_of_ports(alloc, secret, ports) else {
         return Err(BindFault::OutOfMemory);

@@ -22,6 +22,7 @@ mod neighbour_metrics;
 mod players;
 mod port_metrics;
 mod ready_ports;
+mod registering;
 mod route_change_log;
 mod router_counts;
 mod router_ports;

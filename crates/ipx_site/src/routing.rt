@@ -323,7 +323,7 @@ fn datagrams_of<R: Net>(
 }
 
 /// The ports of a file, with their sockets bound.
-fn bound_ports<R: Net>(
+fn bound_ports<R: Net + Log>(
     rt: &R,
     alloc: Global,
     secret: Secret,

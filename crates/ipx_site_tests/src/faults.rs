@@ -148,11 +148,11 @@ const PORTS: [(&str, &str); 13] = [
     ),
     (
         "",
-        "port 1: peers is missing: expected a list of IP addresses, such as [\"198.51.100.7\", \"203.0.113.9\"]; a port of kind \"ipxnet\" may have accept = \"any\" instead",
+        "port 1: peers is missing: expected a list of IP addresses, such as [\"198.51.100.7\", \"203.0.113.9\"], and for kind \"ipxnet\" also prefixes of 8 to 32 bits and names of hosts, such as [\"203.0.113.0/24\", \"friend.example\"]; a port of kind \"ipxnet\" may have accept = \"any\" instead",
     ),
     (
         "peers = [\"10.1.0\"]",
-        "port 1: peers: expected a list of IP addresses, such as [\"198.51.100.7\", \"203.0.113.9\"]",
+        "port 1: peers: expected a list of IP addresses, such as [\"198.51.100.7\", \"203.0.113.9\"], and for kind \"ipxnet\" also prefixes of 8 to 32 bits and names of hosts, such as [\"203.0.113.0/24\", \"friend.example\"]",
     ),
     (
         "peers = []\naccept = \"all\"",

@@ -31,6 +31,8 @@ mod moments;
 #[cfg(test)]
 mod peers;
 #[cfg(test)]
+mod peers_of_players;
+#[cfg(test)]
 mod players;
 #[cfg(test)]
 mod port_metrics;

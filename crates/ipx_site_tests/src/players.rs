@@ -1,7 +1,7 @@
 //! Files with ipxnet ports: what is parsed from them, and each fault with its line.
 
 use crate::fixture::{site, site_line};
-use ipx_config::{Accept, Directed, IpxnetPortConfig, Kind, PortConfig, RouterConfig};
+use ipx_config::{Accept, Directed, IpxnetPortConfig, Kind, Peer, PortConfig, RouterConfig};
 use ipx_wire::{Network, Node};
 use std::alloc::AllocError;
 use std::net::{Ipv4Addr, SocketAddrV4};
@@ -40,6 +40,15 @@ fn players(site: &RouterConfig, index: usize) -> Option<&IpxnetPortConfig> {
     }
 }
 
+/// Whether these peers are these addresses, each one alone.
+fn are_addresses(peers: &[Peer], ips: &[[u8; 4]]) -> bool {
+    peers.len() == ips.len()
+        && peers.iter().zip(ips).all(|(peer, ip)| match peer {
+            Peer::Prefix(prefix) => prefix.address == *ip && prefix.bits == 32,
+            Peer::Host(_) => false,
+        })
+}
+
 fn is_first(port: &IpxnetPortConfig) -> bool {
     port.network == Network(0xd05b)
         && port.address == [192, 0, 2, 10]
@@ -48,7 +57,7 @@ fn is_first(port: &IpxnetPortConfig) -> bool {
         && port.clients == 64
         && port.accept == Accept::Peers
         && port.directed == Directed::Few
-        && port.peers.as_slice() == [[198, 51, 100, 7], [203, 0, 113, 9]].as_slice()
+        && are_addresses(&port.peers, &[[198, 51, 100, 7], [203, 0, 113, 9]])
 }
 
 fn is_second(port: &IpxnetPortConfig) -> bool {
@@ -110,19 +119,19 @@ const PLAYERS: [(&str, &str); 21] = [
     ),
     (
         "",
-        "port 1: peers is missing: expected a list of IP addresses, such as [\"198.51.100.7\", \"203.0.113.9\"]; a port of kind \"ipxnet\" may have accept = \"any\" instead",
+        "port 1: peers is missing: expected a list of IP addresses, such as [\"198.51.100.7\", \"203.0.113.9\"], and for kind \"ipxnet\" also prefixes of 8 to 32 bits and names of hosts, such as [\"203.0.113.0/24\", \"friend.example\"]; a port of kind \"ipxnet\" may have accept = \"any\" instead",
     ),
     (
         "accept = \"peers\"",
-        "port 1: peers is missing: expected a list of IP addresses, such as [\"198.51.100.7\", \"203.0.113.9\"]; a port of kind \"ipxnet\" may have accept = \"any\" instead",
+        "port 1: peers is missing: expected a list of IP addresses, such as [\"198.51.100.7\", \"203.0.113.9\"], and for kind \"ipxnet\" also prefixes of 8 to 32 bits and names of hosts, such as [\"203.0.113.0/24\", \"friend.example\"]; a port of kind \"ipxnet\" may have accept = \"any\" instead",
     ),
     (
         "accept = \"any\"\npeers = 1",
-        "port 1: peers: expected a list of IP addresses, such as [\"198.51.100.7\", \"203.0.113.9\"]",
+        "port 1: peers: expected a list of IP addresses, such as [\"198.51.100.7\", \"203.0.113.9\"], and for kind \"ipxnet\" also prefixes of 8 to 32 bits and names of hosts, such as [\"203.0.113.0/24\", \"friend.example\"]",
     ),
     (
         "peers = [\"198.51.100.7:2130\"]",
-        "port 1: peers: expected a list of IP addresses, such as [\"198.51.100.7\", \"203.0.113.9\"]",
+        "port 1: peers: expected a list of IP addresses, such as [\"198.51.100.7\", \"203.0.113.9\"], and for kind \"ipxnet\" also prefixes of 8 to 32 bits and names of hosts, such as [\"203.0.113.0/24\", \"friend.example\"]",
     ),
     (
         "accept = \"all\"",
@@ -171,7 +180,7 @@ const PLAYERS: [(&str, &str); 21] = [
     ),
     (
         "peers = 1\njoin = 1",
-        "port 1: peers: expected a list of IP addresses, such as [\"198.51.100.7\", \"203.0.113.9\"]",
+        "port 1: peers: expected a list of IP addresses, such as [\"198.51.100.7\", \"203.0.113.9\"], and for kind \"ipxnet\" also prefixes of 8 to 32 bits and names of hosts, such as [\"203.0.113.0/24\", \"friend.example\"]",
     ),
     (
         "accept = \"any\"\nplayers = 4",

@@ -151,7 +151,8 @@ For DOSBox clients, which connect by ipxnet:
   network, address, cost, directed and node as above
   udp_port  where clients register, default 213
   clients   how many at once, 1 to 150, default 64
-  peers     a list of IP addresses that may register
+  peers     who may register: a list of IP addresses, prefixes such as
+            \"203.0.113.0/24\", and names of hosts, which are looked up at the start
   accept    \"any\": everybody may register, and peers is optional
   join      a list of address:port, such as [\"198.51.100.7:2130\"]: ipxnet ports of
             other routers, on the same network, whose players share a game with those here

@@ -45,7 +45,8 @@ HOST_ADDRESS = 'an IPv4 address of this machine, such as "192.0.2.10"'
 NUMBER = "a number from 1 to 65535, such as 213"
 REQUIRED = "a number from 1 to 65535, such as 24002"
 COST = "a number of ticks from 1 to 65535, such as 6"
-PEERS = 'a list of IP addresses, such as ["198.51.100.7", "203.0.113.9"]'
+PEERS = ('a list of IP addresses, such as ["198.51.100.7", "203.0.113.9"], and for kind "ipxnet" also prefixes of 8 to 32 bits and '
+         'names of hosts, such as ["203.0.113.0/24", "friend.example"]')
 PORTS = "1 to 16 tables [[port]]"
 SECRET = 'a file name, different from metrics_file and tables_file with or without .new, such as "/var/lib/ipx/hq/secret"'
 SOCKET = 'four hex digits, not all 0, such as "4002"'

@@ -1,10 +1,10 @@
 use Rattle.std.proofs.Common.{◌≡◌, map, take}
-use Rattle.ipx_ipxnet_ports.specs.ServerAddresses.{bound_places, ips_heard}
+use Rattle.ipx_ipxnet_ports.specs.ServerAddresses.{bound_places, prefixes_heard}
 use Rattle.ipx_config.specs.PortLists.{ipxnet_places, ipxnet_ports}
-use Rattle.ipx_site.specs.KindPorts.{registering_at}
+use Rattle.ipx_site.specs.Registering.{MayRegisterAt}
 use Rattle.ipx_site.proofs.ipxnet_ports.bind_servers.Given as goal
 
 abbrev pub invariant-loop-place : goal.invariant-loop-place
 invariant-loop-place g l =
     (bound_places l.sockets.sockets.items ≡ ipxnet_places (ipxnet_ports (take l.place l.ports)))
-    × (map ips_heard l.sockets.sockets.items ≡ map registering_at (ipxnet_ports (take l.place l.ports)))
+    × MayRegisterAt (ipxnet_ports (take l.place l.ports)) (map prefixes_heard l.sockets.sockets.items)
