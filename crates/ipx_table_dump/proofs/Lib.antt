@@ -9,3 +9,4 @@ pub mod LineWords
 pub mod ReadBack
 pub mod Kept
 pub mod OwnBack
+pub mod ClientLines

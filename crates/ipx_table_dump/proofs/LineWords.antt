@@ -18,7 +18,7 @@ use Rattle.ipx_table_dump.specs.TableText.{head_line, network_word, own_line, ro
 use Rattle.ipx_table_dump.proofs.Clean.{IsFree, free_decimal, free_hex, free_name}
 use Rattle.ipx_table_dump.proofs.Parted.{cat, cat_append, last_word, one_word, read_line}
 
-free_test : (c : ℕ) (bs : List ℕ) → list_all (λ b. not (b == c)) bs ≡ true → IsFree c bs
+pub free_test : (c : ℕ) (bs : List ℕ) → list_all (λ b. not (b == c)) bs ≡ true → IsFree c bs
 free_test c [] h = tt
 free_test c (b ∷ bs) h = elim (b == c) as (λ t. (b == c) ≡ t → (not t && list_all (λ b. not (b == c)) bs) ≡ true → IsFree c (b ∷ bs)) [
   | true ↦ λ e k. cc
@@ -26,16 +26,16 @@ free_test c (b ∷ bs) h = elim (b == c) as (λ t. (b == c) ≡ t → (not t && 
 ] refl h
 
 -- no word has a line end in it, and none has a blank
-abbrev n10 : (n : ℕ) → IsFree 10 (decimal n)
+abbrev pub n10 : (n : ℕ) → IsFree 10 (decimal n)
 n10 n = free_decimal 10 (omega arith) refl (free_test 10 lower_digits refl) n
 
-abbrev n32 : (n : ℕ) → IsFree 32 (decimal n)
+abbrev pub n32 : (n : ℕ) → IsFree 32 (decimal n)
 n32 n = free_decimal 32 (omega arith) refl (free_test 32 lower_digits refl) n
 
-abbrev h10 : (bytes : List ℕ) → IsFree 10 (encode_lower bytes)
+abbrev pub h10 : (bytes : List ℕ) → IsFree 10 (encode_lower bytes)
 h10 bytes = free_hex 10 (omega arith) refl (free_test 10 lower_digits refl) bytes
 
-abbrev h32 : (bytes : List ℕ) → IsFree 32 (encode_lower bytes)
+abbrev pub h32 : (bytes : List ℕ) → IsFree 32 (encode_lower bytes)
 h32 bytes = free_hex 32 (omega arith) refl (free_test 32 lower_digits refl) bytes
 
 abbrev m10 : (name : List ℕ) → IsFree 10 (name_text name)

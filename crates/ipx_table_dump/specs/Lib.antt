@@ -4,3 +4,4 @@ pub mod TableText
 pub mod TableRead
 pub mod FirstAdvertisers
 pub mod TableParts
+pub mod ClientsText

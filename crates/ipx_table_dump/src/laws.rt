@@ -12,6 +12,7 @@ ghost use Rattle.ipx_tables.specs.Route.{network_cmp, route_before};
 ghost use Rattle.ipx_tables.specs.Service.{service_before, service_key_cmp};
 ghost use Rattle.ipx_router.specs.declared.port.Port.{Port};
 ghost use Rattle.ipx_router.specs.Knowledge.{routes_in, services_in};
+ghost use Rattle.ipx_table_dump.specs.ClientsText.{ClientsTextsAreShort};
 ghost use Rattle.ipx_table_dump.specs.TableParts.{has_all_titles, own_networks_read, owns_in_words};
 ghost use Rattle.ipx_table_dump.specs.TableRead.{network_in_words, networks_read, service_in_words, services_read};
 ghost use Rattle.ipx_table_dump.specs.TableText.{IsTables};
@@ -50,4 +51,9 @@ pub fn own_networks_are_read_back()
         (services : Table ServiceKey ServiceMetric) (now : ℕ) (text : List ℕ)
         → IsTables ports routes services now text
         → has_all_titles text ≡ true }
+{}
+
+/// The text of at most 1,024 clients has at most 65,000 bytes.
+pub fn clients_texts_are_short()
+    ensures { ClientsTextsAreShort }
 {}

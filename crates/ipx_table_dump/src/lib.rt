@@ -8,6 +8,8 @@
 mod advertisements;
 mod advertiser_lines;
 mod advertisers;
+mod client_places;
+mod client_words;
 mod direct_networks;
 mod laws;
 mod neighbours;
@@ -20,8 +22,10 @@ mod words;
 mod writing;
 
 pub use advertisers::Advertiser;
+pub use client_places::{ClientPlace, MAX_CLIENT_PLACES, clients_to_text};
+pub use client_words::clients_of_text;
 pub use direct_networks::{OwnWords, own_networks_of_text};
-pub use laws::{bests_are_read_back, own_networks_are_read_back};
+pub use laws::{bests_are_read_back, clients_texts_are_short, own_networks_are_read_back};
 pub use neighbours::first_advertisers;
 pub use reading::{NetworkWords, ServiceWords, networks_of_text, services_of_text};
 pub use section_headers::has_all_titles;

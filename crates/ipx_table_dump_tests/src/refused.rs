@@ -1,7 +1,10 @@
 //! Out of memory: the text is the same, or there is none.
 
 use crate::fixture::{PORT, hear_both};
-use ipx_table_dump::{first_advertisers, networks_of_text, services_of_text, tables_to_text};
+use ipx_table_dump::{
+    clients_of_text, clients_to_text, first_advertisers, networks_of_text, services_of_text,
+    tables_to_text,
+};
 use ipx_tables::{route_table, service_table};
 use std::test::Fail;
 
@@ -54,5 +57,25 @@ fn refused_memory_for_advertisers(rt: HostRuntime) -> Result<(), Fail> {
         .iter()
         .map(|(_, teller)| (teller.networks, teller.services));
     assert!(rt; told.eq([(1, 0), (1, 1)]));
+    Ok(())
+}
+
+#[test]
+fn refused_memory_for_clients(rt: HostRuntime) -> Result<(), Fail> {
+    let alloc = rt.alloc();
+    let text = b"client 0000d05b 203.0.113.9:48199\nend 1\n";
+    let found = match clients_of_text(alloc, text) {
+        Ok(found) => found,
+        Err(_) => clients_of_text(alloc, text)?,
+    };
+    let Some(clients) = found else {
+        assert!(rt; false);
+        return Ok(());
+    };
+    let again = match clients_to_text(alloc, &clients) {
+        Ok(again) => again,
+        Err(_) => clients_to_text(alloc, &clients)?,
+    };
+    assert_eq!(rt; again.as_bytes(), text.as_slice());
     Ok(())
 }
