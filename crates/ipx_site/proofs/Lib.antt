@@ -10,6 +10,7 @@ pub mod StandingFiles
 pub mod StandingSites
 pub mod Spots
 pub mod KindLists
+pub mod KnownAgain
 pub mod PortsRun
 pub mod Marked
 pub mod MarksSeparate

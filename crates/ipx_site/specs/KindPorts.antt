@@ -5,7 +5,10 @@ use Rattle.ipx_ethernet.specs.declared.ethernet_port.EthernetPort.{EthernetPort}
 use Rattle.ipx_ethernet.specs.Heard.{SwitchView, new_switch}
 use Rattle.ipx_carrier.specs.Turns.{peers_of}
 use Rattle.ipxnet_server.specs.ServerHears.{ServerView, joined_server}
+use Rattle.ipxnet_server.specs.Restarts.{server_noting_all}
 use Rattle.ipxnet_server.specs.declared.port.Secret.{Secret}
+use Rattle.ipx_table_dump.specs.declared.client_places.ClientPlace.{ClientPlace}
+use Rattle.ipx_site.specs.KnownPlaces.{places_known}
 use Rattle.ipxnet_server.specs.declared.port.ServerPort.{ServerPort}
 use Rattle.ipx_ipxnet_ports.specs.ServerAddresses.{bound_places as bound_servers, prefixes_heard}
 use Rattle.ipx_ethernet_ports.specs.EthernetAddresses.{bound_places, remote_places}
@@ -54,15 +57,17 @@ switch_of p = new_switch (ethernet_port_of p) p.joined
 abbrev pub client_port_of : Secret → IpxnetPortConfig → ServerPort
 client_port_of secret p = record { network = p.network; own = p.node; secret = secret }
 
--- it is joined to the servers of the routers that the file names
-abbrev pub server_of_port : Secret → IpxnetPortConfig → ServerView
-server_of_port secret p = joined_server (client_port_of secret p) p.clients p.join.items
+-- it is joined to the servers of the routers that the file names, and has noted the clients of before
+abbrev pub server_of_port : Secret → List ClientPlace → IpxnetPortConfig → ServerView
+server_of_port secret known p =
+    server_noting_all 0 (places_known p.network known)
+    (joined_server (client_port_of secret p) p.clients p.join.items)
 
 -- the ports of a file as those of a router. An RFC 1234 port has its peers, its access list, and a socket
 -- with the UDP port of its peers. An Ethernet port has its switch, and a socket with the places of its
--- remotes. An ipxnet port has its server, with this secret, and a socket that accepts those that may register.
--- Each socket is bound where the file says
-pub record ArePortsBound {gd : OfDevice.Ghosts (SourceFilter UdpSockets)} {ge : OfSockets.Ghosts EthernetSockets} {gl : OfPlaces.Ghosts ServerSockets} (secret : Secret) (ports : List PortConfig) (r : SitePortsRun gd ge gl) : Type 0 where
+-- remotes. An ipxnet port has its server, with this secret and notes of these clients, and a socket that accepts those
+-- that may register. Each socket is bound where the file says
+pub record ArePortsBound {gd : OfDevice.Ghosts (SourceFilter UdpSockets)} {ge : OfSockets.Ghosts EthernetSockets} {gl : OfPlaces.Ghosts ServerSockets} (secret : Secret) (known : List ClientPlace) (ports : List PortConfig) (r : SitePortsRun gd ge gl) : Type 0 where
   pub port_indices : r.port_indices.items ≡ port_indices_of ports
   pub peers : peers_of r.datagrams.peers.items ≡ site_peers (datagram_ports ports)
   pub access_lists : AccessListPorts (datagram_ports ports) r.datagrams.device.access_lists.items
@@ -71,7 +76,7 @@ pub record ArePortsBound {gd : OfDevice.Ghosts (SourceFilter UdpSockets)} {ge : 
   pub switches : r.ethernet.switches.items ≡ map switch_of (ethernet_ports ports)
   pub ends : remote_places r.ethernet.sockets.ethernet.items ≡ end_places (ethernet_ports ports)
   pub ethernet_bound : bound_places r.ethernet.sockets.ethernet.items ≡ ethernet_places (ethernet_ports ports)
-  pub servers : r.servers.servers.items ≡ map (server_of_port secret) (ipxnet_ports ports)
+  pub servers : r.servers.servers.items ≡ map (server_of_port secret known) (ipxnet_ports ports)
   pub ipxnet_bound : bound_servers r.servers.sockets.sockets.items ≡ ipxnet_places (ipxnet_ports ports)
   pub registering : MayRegisterAt (ipxnet_ports ports) (map prefixes_heard r.servers.sockets.sockets.items)
 

@@ -1,4 +1,6 @@
 pub mod Secrets
+pub mod ClientsFile
+pub mod KnownPlaces
 pub mod ControlSenders
 pub mod SiteCore
 pub mod IdleTime

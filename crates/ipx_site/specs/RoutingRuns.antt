@@ -10,6 +10,7 @@ use Rattle.ipx_source_checks.specs.SourceChecks.{nothing_dropped_yet}
 use Rattle.ipx_site.specs.IdleTime.{IsDue, deadlines, happened}
 use Rattle.ipx_site.specs.KindPorts.{checked_ports, ArePortsBound}
 use Rattle.ipxnet_server.specs.declared.port.Secret.{Secret}
+use Rattle.ipx_table_dump.specs.declared.client_places.ClientPlace.{ClientPlace}
 use Rattle.ipx_config.specs.Loading.{IsFileText}
 use Rattle.ipx_sockets.specs.PollEvents.{Waited, Watched}
 use Rattle.ipx_rate_limits.specs.PortLimits.{limits_of}
@@ -33,7 +34,7 @@ abbrev pub KnowsNothing : RouterView → Type 0
 KnowsNothing r = (r.routes.offers ≡ []) × (r.services.offers ≡ []) × (r.told ≡ None)
 
 -- a router has started as its file says. It has the ports of the file, each with its socket and an index of
--- its own, and all ipxnet ports with one secret. It knows nothing of other routers, and is to hear its static entries. It checks sources at its ports, and has dropped nothing. The limits at its ports are
+-- its own, and all ipxnet ports with one secret and notes of some clients. It knows nothing of other routers, and is to hear its static entries. It checks sources at its ports, and has dropped nothing. The limits at its ports are
 -- those of their kinds and of the file, and no query has come. Its poller watches the descriptors of
 -- all its sockets, by kind, and has not waited. Its clock begins at 0, and it has not repeated its requests
 pub record StartsBy {R : Type 0} (site : RouterConfig) (first : RunningRouter R) : Type 0 where
@@ -44,7 +45,8 @@ pub record StartsBy {R : Type 0} (site : RouterConfig) (first : RunningRouter R)
   pub queriers : (first.core.core.ports ≡ router_ports site.ports.items)
       × (first.core.core.buckets ≡ fresh_buckets (limits_of site.ports.items))
   pub secret : Secret
-  pub bound : ArePortsBound secret site.ports.items first.ports
+  pub known : List ClientPlace
+  pub bound : ArePortsBound secret known site.ports.items first.ports
   pub indices : AreIndicesDistinct first.ports.port_indices.items
   pub watched : first.ready.trace.items ≡ map Watched (port_fds first.ports)
   pub clock : first.clock.last ≡ 0

@@ -3,16 +3,21 @@
 ghost use Rattle.std.specs.Prelude.{◌≡◌, ◌++◌, ◌∷◌, [], List, Option, IfOk, OnOk, map};
 ghost use Rattle.ipx_ipxnet_ports.specs.ServerAddresses.{bound_places, prefixes_heard};
 ghost use Rattle.ipx_site.specs.KindPorts.{client_port_of, server_of_port};
+ghost use Rattle.ipx_site.specs.KnownPlaces.{is_known_here, places_known};
+ghost use Rattle.ipxnet_server.specs.Restarts.{server_noting_all};
 ghost use Rattle.ipx_site.specs.Registering.{MayRegister, MayRegisterAt};
 ghost use Rattle.ip_prefixes.specs.declared.prefix.Prefix.{Prefix};
 ghost use Rattle.ipx_config.specs.PortLists.{ipxnet_places, ipxnet_ports};
 ghost use Rattle.ipx_carrier.specs.Traces.{v4_at};
 
 use crate::registering::registering;
+use crate::secret_file::KeptClients;
 use ipx_carrier::socket_addr;
 use ipx_config::{IpxnetPortConfig, PortConfig};
 use ipx_ipxnet_ports::{ServerSockets, Servers};
 use ipx_sockets::{BindFault, bind_error};
+use ipx_table_dump::ClientPlace;
+use ipx_wire::Network;
 use ipxnet_server::{IpxnetServer, Secret, ServerPort};
 use log::Log;
 use std::alloc::{AllocError, Global};
@@ -30,31 +35,53 @@ fn client_port(secret: Secret, port: &IpxnetPortConfig) -> ServerPort
     }
 }
 
-/// The server of a port, before any client has registered.
+/// Whether a client was one of this network.
+fn is_known_here(network: Network, client: &ClientPlace) -> bool
+    ensures { result ≡ is_known_here network client.now }
+{
+    client.network == network
+}
+
+/// Notes the clients of a server before a restart.
+fn note_known(server: &mut IpxnetServer, network: Network, known: &[ClientPlace])
+    ensures { server.new ≡ server_noting_all 0 (places_known network known.now) server.old }
+{
+    for client in known {
+        if is_known_here(network, client) {
+            server.note_again(client.place, 0);
+        }
+    }
+}
+
+/// The server of a port, before any client has registered. It has noted the clients of before.
 fn server_of(
     alloc: Global,
-    secret: Secret,
+    kept: &KeptClients,
     port: &IpxnetPortConfig,
 ) -> Result<IpxnetServer, AllocError>
-    ensures { IfOk result (λ l. l ≡ server_of_port secret port.now) }
+    ensures { IfOk result (λ l. l ≡ server_of_port kept.now.secret kept.now.clients.items port.now) }
 {
     let routers = Vec::from_slice(alloc, &port.join)?;
     let most = usize::from(port.clients);
-    IpxnetServer::joined_to(alloc, client_port(secret, port), most, routers)
+    let ipxnet = client_port(kept.secret, port);
+    let mut server = IpxnetServer::joined_to(alloc, ipxnet, most, routers)?;
+    note_known(&mut server, port.network, &kept.clients);
+    Ok(server)
 }
 
 /// The server of each ipxnet port.
 fn servers_of_ports(
     alloc: Global,
-    secret: Secret,
+    kept: &KeptClients,
     ports: &[PortConfig],
 ) -> Result<Vec<IpxnetServer>, AllocError>
-    ensures { IfOk result (λ v. v.items ≡ map (server_of_port secret) (ipxnet_ports ports.now)) }
+    ensures { IfOk result (λ v. v.items
+        ≡ map (server_of_port kept.now.secret kept.now.clients.items) (ipxnet_ports ports.now)) }
 {
     let mut servers = Vec::new(alloc);
     for port in ports {
         if let PortConfig::Ipxnet(port) = port {
-            let server = server_of(alloc, secret, port)?;
+            let server = server_of(alloc, kept, port)?;
             servers.push(server)?;
         }
     }
@@ -110,22 +137,22 @@ fn bind_servers<R: Net + Log>(
     Ok(sockets)
 }
 
-/// The ipxnet ports among these, with their sockets bound and their servers, which make nodes of
-/// this secret.
+/// The ipxnet ports among these, with their sockets bound and their servers, which make nodes of the
+/// secret that was kept, and have noted the clients that were.
 pub fn servers_of<R: Net + Log>(
     rt: &R,
     alloc: Global,
-    secret: Secret,
+    kept: &KeptClients,
     ports: &[PortConfig],
 ) -> Result<Servers<ServerSockets>, BindFault>
     ensures servers { IfOk result (λ l. l.servers.items
-        ≡ map (server_of_port secret) (ipxnet_ports ports.now)) }
+        ≡ map (server_of_port kept.now.secret kept.now.clients.items) (ipxnet_ports ports.now)) }
     ensures at { IfOk result (λ l.
         bound_places l.sockets.sockets.items ≡ ipxnet_places (ipxnet_ports ports.now)) }
     ensures registering { IfOk result (λ l.
         MayRegisterAt (ipxnet_ports ports.now) (map prefixes_heard l.sockets.sockets.items)) }
 {
-    let Ok(servers) = servers_of_ports(alloc, secret, ports) else {
+    let Ok(servers) = servers_of_ports(alloc, kept, ports) else {
         return Err(BindFault::OutOfMemory);
     };
     let sockets = bind_servers(rt, alloc, ports)?;

@@ -6,6 +6,7 @@
 
 mod access_list_metrics;
 mod client_log;
+mod clients_file;
 mod discovery;
 mod drop_log;
 mod ethernet_ports;
@@ -30,6 +31,7 @@ mod router_runs;
 mod routing;
 mod running_router;
 mod secret;
+mod secret_file;
 mod source_laws;
 mod starting;
 mod static_laws;

@@ -19,11 +19,13 @@ ghost use Rattle.ipx_sockets.specs.AccessLists.{AccessListPorts, access_by};
 ghost use Rattle.ipx_config.specs.SitePorts.{access_of, heard_at_port, named, router_ports, site_peers, udp_ports};
 ghost use Rattle.ipx_rate_limits.specs.TokenBuckets.{fresh_buckets};
 
+use crate::clients_file::ClientsFile;
 use crate::ethernet_ports::ethernet_ports_of;
 use crate::ipxnet_ports::servers_of;
 use crate::router_ports::{PortIndex, RouterPorts, UdpRouterPorts};
 use crate::router_runs::run_router;
 use crate::running_router::{Parts, RunningRouter};
+use crate::secret_file::KeptClients;
 use crate::starting::start_router;
 use crate::static_neighbours::silent_of;
 use ipx_carrier::OwnedRfc1234Ports;
@@ -37,7 +39,6 @@ use ipx_sockets::{
 };
 use ipx_source_checks::{CheckedPort, SourceChecked};
 use ipx_static::{StaticNeighbour, WithStatics};
-use ipxnet_server::Secret;
 use log::{Log, info, warn};
 use std::alloc::{AllocError, Global};
 use std::net::Net;
@@ -326,15 +327,15 @@ fn datagrams_of<R: Net>(
 fn bound_ports<R: Net + Log>(
     rt: &R,
     alloc: Global,
-    secret: Secret,
+    kept: &KeptClients,
     ports: &[PortConfig],
 ) -> Result<UdpRouterPorts, RouteFault>
-    ensures { IfOk result (ArePortsBound secret ports.now) }
+    ensures { IfOk result (ArePortsBound kept.now.secret kept.now.clients.items ports.now) }
 {
     let port_indices = port_indices_of(alloc, ports)?;
     let datagrams = datagrams_of(rt, alloc, ports)?;
     let ethernet = ethernet_ports_of(rt, alloc, ports)?;
-    let servers = servers_of(rt, alloc, secret, ports)?;
+    let servers = servers_of(rt, alloc, kept, ports)?;
     Ok(RouterPorts::new(datagrams, ethernet, servers, port_indices))
 }
 
@@ -353,12 +354,12 @@ fn ready_for<R: Net>(rt: &R, alloc: Global, ports: &UdpRouterPorts) -> Result<Po
 }
 
 /// Starts the router that a file describes, with its sockets bound. Its ipxnet ports make nodes of
-/// this secret.
+/// the secret that was kept, and note the clients that were.
 pub(crate) fn start<'a, R: Net + Log + SystemClock>(
     rt: &'a R,
     alloc: Global,
     site: RouterConfig,
-    secret: Secret,
+    kept: KeptClients,
 ) -> Result<RunningRouter<'a, R>, RouteFault>
     requires own { All IsOwnNetwork (router_ports site.ports.items) }
     requires there { HearsAtPorts site }
@@ -377,8 +378,9 @@ pub(crate) fn start<'a, R: Net + Log + SystemClock>(
     ensures queriers { IfOk result (λ s. (s.core.core.ports ≡ router_ports site.ports.items)
         × (s.core.core.buckets ≡ fresh_buckets (limits_of site.ports.items))) }
     // Each port has its socket. An RFC 1234 port has its peers and its access list, an Ethernet
-    // port its switch, and an ipxnet port its server with this secret.
-    ensures bound { IfOk result (λ s. ArePortsBound secret site.ports.items s.ports) }
+    // port its switch, and an ipxnet port its server with this secret and notes of these clients.
+    ensures bound { IfOk result (λ s.
+        ArePortsBound kept.secret kept.clients.items site.ports.items s.ports) }
     // Its poller watches the descriptors of all ports, by kind, and has not waited.
     ensures watched { IfOk result (λ s. s.ready.trace.items ≡ map Watched (port_fds s.ports)) }
     ensures clock { IfOk result (λ s. s.clock.last ≡ 0) }
@@ -389,7 +391,7 @@ pub(crate) fn start<'a, R: Net + Log + SystemClock>(
     // All lines are made before the first is logged, so that nothing is logged if out of memory
     // here.
     let lines = ports_to_texts(alloc, &site.ports)?;
-    let ports = bound_ports(rt, alloc, secret, &site.ports)?;
+    let ports = bound_ports(rt, alloc, &kept, &site.ports)?;
     let ready = ready_for(rt, alloc, &ports)?;
     tell_ports(rt, &lines, &ports);
     let parts = Parts {
@@ -399,6 +401,7 @@ pub(crate) fn start<'a, R: Net + Log + SystemClock>(
         ready,
         status: site.status,
         tables: site.tables,
+        listed: ClientsFile::new(site.secret_file, kept),
     };
     Ok(RunningRouter::new(alloc, parts))
 }

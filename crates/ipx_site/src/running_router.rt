@@ -17,6 +17,7 @@ ghost use Rattle.ipx_site.specs.SiteMarks.{KindMarks, all_marks, kind_marks, mar
 ghost use Rattle.ipx_sockets.specs.Steady.{NeverGoesBack, StopsThere};
 
 use crate::client_log::ClientLog;
+use crate::clients_file::{ClientsFile, ClientsFileFault};
 use crate::discovery::discovery_retry;
 use crate::drop_log::DropLog;
 use crate::frame_metrics::{ethernet_metrics, tell_encapsulations};
@@ -63,6 +64,7 @@ pub struct RunningRouter<'a, R: SystemClock> {
     totals: RouterCounts,
     known: RouteChangeLog,
     clients: ClientLog,
+    listed: ClientsFile,
     warnings: Warnings,
     drops: DropLog,
     /// How often it repeated its requests.
@@ -88,6 +90,7 @@ impl<'a, R: SystemClock> Drop for RunningRouter<'a, R> {
             totals: _,
             known: _,
             clients: _,
+            listed: _,
             warnings: _,
             drops: _,
             asked: _,
@@ -107,6 +110,7 @@ pub struct Parts<'a, R: SystemClock> {
     pub ready: Poller,
     pub status: Option<String>,
     pub tables: Option<String>,
+    pub listed: ClientsFile,
 }
 
 impl<'a, R: SystemClock> RunningRouter<'a, R> {
@@ -129,6 +133,7 @@ impl<'a, R: SystemClock> RunningRouter<'a, R> {
             totals: RouterCounts::new(),
             known: RouteChangeLog::new(alloc),
             clients: ClientLog::new(alloc),
+            listed: parts.listed,
             warnings: Warnings::new(),
             drops: DropLog::new(),
             asked: 0,
@@ -276,6 +281,23 @@ impl<'a, R: SystemClock> RunningRouter<'a, R> {
         }
     }
 
+    /// Writes the file that lists its clients, if it is time and it has one.
+    fn write_clients<F: Files>(&mut self, rt: &F, alloc: Global, now: u64)
+        ensures core { self.new.core ≡ self.old.core }
+        ensures ports { self.new.ports ≡ self.old.ports }
+        ensures clock { self.new.clock ≡ self.old.clock }
+        ensures ready { self.new.ready ≡ self.old.ready }
+        ensures warnings { self.new.warnings ≡ self.old.warnings }
+        ensures drops { self.new.drops ≡ self.old.drops }
+        ensures asked { self.new.asked ≡ self.old.asked }
+    {
+        match self.listed.keep(rt, alloc, &self.ports, now) {
+            Ok(()) => {}
+            Err(ClientsFileFault::OutOfMemory) => self.totals.count_out_of_memory(),
+            Err(ClientsFileFault::File) => self.totals.fail_file(),
+        }
+    }
+
     /// Does the work besides the turns.
     fn keep<S: Log + Files>(&mut self, rt: &S, alloc: Global, now: u64)
         ensures core { AsksAgain now self.old.asked self.new.asked self.old.core self.new.core }
@@ -293,6 +315,7 @@ impl<'a, R: SystemClock> RunningRouter<'a, R> {
         self.ask(now);
         self.look(rt, alloc, now);
         self.write_metrics(rt, alloc, now);
+        self.write_clients(rt, alloc, now);
         let metrics = self.metrics(now);
         if self.warnings.are_encapsulations_due(&metrics, now) {
             tell_encapsulations(rt, &self.ports);

@@ -1,26 +1,24 @@
-//! The secret of a router, from which its ipxnet ports make the nodes of their clients.
+//! The secret of a router, from which its ipxnet ports make the nodes of their clients, and the
+//! clients that it had before it was started again.
 
-ghost use Rattle.std.specs.Prelude.{◌≡◌, IfErr, IfSome, None};
-ghost use Rattle.ipx_site.specs.Secrets.{IsSecretText};
+ghost use Rattle.std.specs.Prelude.{◌≡◌, IfErr};
 
-use ipx_config::{PortConfig, RouterConfig, TEMPORARY, tell_no_memory};
+use crate::secret_file::{KeptClients, KeptText, kept_in, secret_to_text, write_private};
+use ipx_config::{PortConfig, RouterConfig, tell_no_memory};
 use ipx_inspect::{InputFault, read_up_to};
 use ipxnet_server::Secret;
+use log::{Log, warn};
 use std::alloc::Global;
-use std::fs::{File, OpenFile, OpenOptions};
-use std::io::{ErrorKind, Read, Write};
-use std::os::unix::fs::OpenOptionsExt;
+use std::fs::File;
+use std::io;
+use std::io::{ErrorKind, Read};
 use std::rt::Files;
-use std::{fs, io};
 
 /// Where the system gives random bytes.
 const RANDOM: &str = "/dev/urandom";
 
-/// How many bytes the text of a secret has: 64 hex digits, and the end of the line.
-const TEXT_SIZE: usize = 65;
-
-/// Only the owner may read the file, and write it.
-const MODE: u32 = 0o600;
+/// The most bytes of the file of a secret that are read: more than it has.
+const MAX_FILE: usize = 65_536;
 
 /// Why a router has no secret.
 enum SecretFault {
@@ -41,69 +39,61 @@ fn random_secret<R: Files>(rt: &R) -> io::Result<Secret> {
     Ok(Secret(bytes))
 }
 
-/// The secret that a text is.
-fn secret_in(text: &[u8]) -> Option<Secret>
-    ensures secret { IfSome result (IsSecretText text.now) }
-    ensures none { result ≡ None → (s : Secret) → IsSecretText text.now s → ⊥ }
-{
-    let (end, digits) = text.split_last()?;
-    if *end != b'\n' {
-        return None;
-    }
-    let mut bytes = [0; 32];
-    match hex::decode_to_slice(digits, &mut bytes) {
-        Ok(()) => Some(Secret(bytes)),
-        Err(_) => None,
-    }
-}
-
-/// The text of a secret.
-fn secret_to_text(secret: Secret) -> [u8; TEXT_SIZE] {
-    let mut text = [b'\n'; TEXT_SIZE];
-    let _ = hex::encode_to_slice(secret.0, &mut text[..64]);
-    text
-}
-
-/// Writes a file that only its owner may read, and that no other program has open.
-fn write_private<R: Files>(rt: &R, path: &str, text: &[u8]) -> io::Result<()> {
-    match fs::remove_file(rt, path) {
-        Ok(()) => {}
-        Err(error) if error.kind() == ErrorKind::NotFound => {}
-        Err(error) => return Err(error),
-    }
-    let mut options = OpenOptions::new();
-    options.write(true).create_new(true).mode(MODE);
-    let mut file = options.open(rt, path)?;
-    file.write_all(text)?;
-    file.sync_all()
-}
-
-/// Makes a secret and its file, which is renamed into place, so that it is whole or not there.
-fn make_secret<R: Files>(rt: &R, alloc: Global, path: &str) -> Result<Secret, SecretFault> {
+/// Makes a secret and its file.
+fn make_secret<R: Files>(rt: &R, alloc: Global, path: &str) -> Result<KeptClients, SecretFault> {
     let secret = random_secret(rt).map_err(SecretFault::Random)?;
-    let Ok(beside) = format!(in alloc; "{path}{TEMPORARY}") else {
+    let Ok(text) = secret_to_text(alloc, secret, &[]) else {
         return Err(SecretFault::OutOfMemory);
     };
-    write_private(rt, &beside, &secret_to_text(secret)).map_err(SecretFault::File)?;
-    fs::rename(rt, beside.as_str(), path).map_err(SecretFault::File)?;
-    Ok(secret)
+    match write_private(rt, alloc, path, text.as_str()) {
+        Ok(Ok(())) => Ok(KeptClients::new(alloc, secret)),
+        Ok(Err(error)) => Err(SecretFault::File(error)),
+        Err(_) => Err(SecretFault::OutOfMemory),
+    }
 }
 
-/// The secret of a file. If there is no such file it is made.
-fn secret_of_file<R: Files>(rt: &R, alloc: Global, path: &str) -> Result<Secret, SecretFault> {
-    let mut file = match File::open(rt, path) {
+/// Says that a file holds a secret, and something else after it than a list of clients.
+fn tell_cut<R: Log>(rt: &R, path: &str, name: &str) {
+    warn!(rt; target: "ipx",
+        "{path}: secret_file {name}: its list of players was cut, or is something else: \
+         the secret is used, and players who only listen are not asked");
+}
+
+/// What the text of a file says. Of a list that was cut only the secret counts.
+fn kept_of_text<R: Log>(
+    rt: &R,
+    alloc: Global,
+    path: &str,
+    name: &str,
+    text: &[u8],
+) -> Result<KeptClients, SecretFault> {
+    match kept_in(alloc, text) {
+        Ok(KeptText::Whole(kept)) => Ok(kept),
+        Ok(KeptText::Cut(secret)) => {
+            tell_cut(rt, path, name);
+            Ok(KeptClients::new(alloc, secret))
+        }
+        Ok(KeptText::None) => Err(SecretFault::Text),
+        Err(_) => Err(SecretFault::OutOfMemory),
+    }
+}
+
+/// The secret of a file, and the clients that it lists. If there is no such file it is made.
+fn kept_of_file<R: Files + Log>(
+    rt: &R,
+    alloc: Global,
+    path: &str,
+    name: &str,
+) -> Result<KeptClients, SecretFault> {
+    let mut file = match File::open(rt, name) {
         Ok(file) => file,
-        Err(error) if error.kind() == ErrorKind::NotFound => return make_secret(rt, alloc, path),
+        Err(error) if error.kind() == ErrorKind::NotFound => return make_secret(rt, alloc, name),
         Err(error) => return Err(SecretFault::File(error)),
     };
-    let text = match read_up_to(alloc, &mut file, TEXT_SIZE + 1) {
-        Ok(text) => text,
-        Err(InputFault::Memory) => return Err(SecretFault::OutOfMemory),
-        Err(InputFault::Read) => return Err(SecretFault::Text),
-    };
-    match secret_in(&text) {
-        Some(secret) => Ok(secret),
-        None => Err(SecretFault::Text),
+    match read_up_to(alloc, &mut file, MAX_FILE + 1) {
+        Ok(text) => kept_of_text(rt, alloc, path, name, &text),
+        Err(InputFault::Memory) => Err(SecretFault::OutOfMemory),
+        Err(InputFault::Read) => Err(SecretFault::Text),
     }
 }
 
@@ -136,28 +126,29 @@ fn has_ipxnet_port(ports: &[PortConfig]) -> bool {
         .any(|port| matches!(port, PortConfig::Ipxnet(_)))
 }
 
-/// The secret of a router: that of its file, which is made if there is none, or random bytes if no
-/// file is named. A router without an ipxnet port has none, and no file is opened. The path is that
-/// of the router's own file. The error is the exit status, after one line on standard error.
-pub(crate) fn secret_of<R: Files + Eprint>(
+/// The secret of a router, and the clients that it had before it was started again: those of its
+/// file, which is made if there is none, or random bytes and no client if no file is named. A router
+/// without an ipxnet port has none, and no file is opened. The path is that of the router's own file.
+/// The error is the exit status, after one line on standard error.
+pub(crate) fn kept_of<R: Files + Log + Eprint>(
     rt: &R,
     alloc: Global,
     path: &str,
     site: &RouterConfig,
-) -> Result<Secret, u8>
+) -> Result<KeptClients, u8>
     ensures { IfErr result (λ status. status ≡ 1) }
 {
     if !has_ipxnet_port(&site.ports) {
-        return Ok(Secret([0; 32]));
+        return Ok(KeptClients::new(alloc, Secret([0; 32])));
     }
     let Some(name) = &site.secret_file else {
         return match random_secret(rt) {
-            Ok(secret) => Ok(secret),
+            Ok(secret) => Ok(KeptClients::new(alloc, secret)),
             Err(error) => Err(tell_secret_fault(rt, path, RANDOM, SecretFault::Random(error))),
         };
     };
-    match secret_of_file(rt, alloc, name) {
-        Ok(secret) => Ok(secret),
+    match kept_of_file(rt, alloc, path, name) {
+        Ok(kept) => Ok(kept),
         Err(fault) => Err(tell_secret_fault(rt, path, name, fault)),
     }
 }

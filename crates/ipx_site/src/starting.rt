@@ -8,7 +8,7 @@ ghost use Rattle.ipx_config.specs.StaticLists.{HearsAtPorts};
 
 use crate::routing::{start, tell_route_fault};
 use crate::running_router::RunningRouter;
-use crate::secret::secret_of;
+use crate::secret::kept_of;
 use ipx_config::{RouterConfig, load_site};
 use log::Log;
 use std::alloc::Global;
@@ -31,8 +31,8 @@ pub(crate) fn start_loaded<'a, R: Net + Log + Files + SystemClock + Eprint>(
 {
     match loaded {
         Ok(site) => {
-            let secret = secret_of(rt, alloc, path, &site)?;
-            match start(rt, alloc, site, secret) {
+            let kept = kept_of(rt, alloc, path, &site)?;
+            match start(rt, alloc, site, kept) {
                 Ok(router) => Ok(router),
                 Err(fault) => Err(tell_route_fault(rt, path, fault)),
             }

@@ -90,7 +90,7 @@ fn warnings_in(f: &Metrics) -> [Warning; CAUSES]
         Warning::of_nobody(f.memory_faults, "times out of memory"),
         Warning::of_nobody(
             f.file_faults,
-            "failed writes of metrics_file or tables_file",
+            "failed writes of metrics_file, tables_file or secret_file",
         ),
         frame_warning(f),
         Warning::of_nobody(f.unframed, "packets that do not fit into a frame"),

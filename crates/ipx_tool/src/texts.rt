@@ -160,8 +160,8 @@ Optional, before the first port:
   metrics_file  a file to which the router writes its metrics every ten seconds
   tables_file   a file to which it writes its routing and service tables every ten seconds,
                 for ipx networks and ipx services
-  secret_file   a file of the secret for ipxnet ports, made if it is missing: with it players
-                stay through a restart of the router
+  secret_file   a file of the secret and the players of ipxnet ports, made if it is missing:
+                with it players stay through a restart of the router
 After the ports, up to 256 static routes, [[route]], for routers that do not speak RIP:
   port      the number of a port, starting at 1
   next_hop  the next router: one of the port's peers, or a MAC address on an Ethernet port

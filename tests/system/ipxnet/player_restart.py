@@ -1,11 +1,12 @@
-"""A router that is killed and started again under two who play, and pings to silent clients, for `players`."""
+"""A router that is killed and started again under two who play and one who only listens, and pings to silent clients, for
+`players`."""
 import os
 import signal
 import time
 
 from player_boxes import Box
 from player_hostile import Pair, dropped_for, registered, wait_for
-from player_world import EVERYBODY, NETWORKS, REGISTRATION, ROUTER_NODE, Client, Router, lobby_table
+from player_world import EVERYBODY, NETWORKS, REGISTRATION, ROUTER_NODE, SECRET, Client, Router, lobby_table, shows
 from site_packets import ipx
 from site_world import free_port, until
 
@@ -13,6 +14,9 @@ LOBBY, PLAYERS, STRANGER = "127.0.6.81", ["127.0.6.82", "127.0.6.83"], "127.0.6.
 NETWORK = NETWORKS[0]
 # A ping comes so long after a client was heard last, at most so much later on a machine that is loaded.
 PING_SECONDS, LATE_SECONDS = 25, 4
+# Who was a client before a restart gets one so long after it, and the last one so long after it. The file of the clients is
+# written within ten seconds of the first change.
+ASK_SECONDS, LAST_ASK_SECONDS, FILE_SECONDS = 1, 4, 14
 # What a client answers to a ping of the router.
 ANSWER_TO = ("00000000", ROUTER_NODE, "0002")
 
@@ -20,18 +24,26 @@ ANSWER_TO = ("00000000", ROUTER_NODE, "0002")
 class Restarted:
     """A router with a port for clients, which is killed and started again."""
 
-    def __init__(self, run):
-        self.run = run
-        self.place = (LOBBY, free_port([LOBBY]))
+    def __init__(self, run, name="restarted"):
+        self.run, self.name = run, name
+        self.place, self.secret = (LOBBY, free_port([LOBBY])), run.world.path(f"{name}.secret")
         self.router = self.started()
 
-    def started(self):
-        return Router(self.run, "restarted", [lobby_table(NETWORK, self.place, 'accept = "any"\n')])
+    def started(self, accept='accept = "any"\n'):
+        return Router(self.run, self.name, [lobby_table(NETWORK, self.place, accept)])
 
-    def again(self):
-        """It is killed, and started again at its place."""
+    def again(self, change=None, accept='accept = "any"\n'):
+        """It is killed, and started again at its place, once its file of the secret was changed so."""
         self.router.process.end(signal.SIGKILL)
-        self.router = self.started()
+        if change:
+            text = change(self.kept())
+            self.run.world.write(f"{self.name}.secret", text)
+        self.router = self.started(accept)
+
+    def kept(self):
+        """What its file of the secret holds."""
+        with open(self.secret, encoding="utf-8") as file:
+            return file.read()
 
     def check_clients(self, wanted):
         """So many clients are there, by the figures, and nothing was dropped but for the cause that is wanted."""
@@ -117,6 +129,62 @@ def check_box(it):
     other.end()
 
 
+def asked(client, seconds):
+    """Whether a client is pinged within some seconds."""
+    client.pinged = []
+    return until(lambda: client.take() is not None and client.pinged, seconds)
+
+
+def kept_text(*clients):
+    """The file of the secret with these clients."""
+    lines = [f"client {NETWORK} {place[0]}:{place[1]}\n" for place in clients]
+    return f"{SECRET.hex()}\n{''.join(lines)}end {len(lines)}\n"
+
+
+def check_listener(run):
+    """A player who only listens is asked after a restart, by the file of the secret, and gets what others send."""
+    it = Restarted(run, "listened")
+    run.check("a file with the secret alone is read", it.kept() == f"{SECRET.hex()}\n" and not it.router.process.is_over())
+    listener = registered((PLAYERS[0], 0), it.place)
+    wanted = kept_text(listener.place)
+    run.check("once it is a client the file lists it", until(lambda: it.kept() == wanted, FILE_SECONDS), it.kept())
+    mode = os.stat(it.secret).st_mode & 0o777
+    run.check("its owner alone may read it", mode == 0o600, oct(mode))
+    it.again()
+    is_asked = asked(listener, ASK_SECONDS + LATE_SECONDS)
+    run.check("after a restart a player who only listens gets a ping", is_asked)
+    listener.got = []
+    if is_asked:
+        listener.send(shows(listener.node))
+    other = registered((PLAYERS[1], 0), it.place)
+    packet = to_all(other, b"who listens?")
+    run.check("its answer makes it a client: what another sends to all comes", wait_for(listener) == [packet], str(listener.got or ""))
+    other.end()
+    it.again(lambda text: text.replace(NETWORK, NETWORKS[1]))
+    run.check("it gets none if the port has another network than it had", not asked(listener, LAST_ASK_SECONDS + 1))
+    it.again(lambda _text: wanted, f'peers = ["{PLAYERS[1]}"]\n')
+    run.check("nor if it may not register", not asked(listener, LAST_ASK_SECONDS + 1))
+    return it, listener
+
+
+def check_cut(it, listener):
+    """A router starts with a file that was cut, and says so. It has the secret of the first line, and asks nobody."""
+    run = it.run
+    it.again(lambda _text: kept_text(listener.place).replace("end 1\n", ""))
+    said = [line for line in it.router.process.said() if "secret_file" in line]
+    run.check("a file that was cut is said in one line, and the router starts",
+              len(said) == 1 and "was cut" in said[0] and not it.router.process.is_over(), str(it.router.process.said()))
+    run.check("it asks nobody", not asked(listener, LAST_ASK_SECONDS + 1))
+    other = registered((PLAYERS[1], 0), it.place)
+    run.check("its secret is that of the first line", other.is_answered)
+    packet = to_all(listener, b"here I am")
+    run.check("so who sends is a client again", wait_for(other) == [packet], str(other.got or ""))
+    for client in (listener, other):
+        client.end()
+    run.check("and the router goes on", not it.router.process.is_over())
+    it.router.process.end()
+
+
 def given_nodes(run, name, file, place):
     """The nodes that a place is given by a router of a file, and by the same after it was killed."""
     client, nodes = Client((PLAYERS[0], 0), place), []
@@ -153,6 +221,7 @@ def check_secret(run):
 def check_restart(run):
     """All of it."""
     check_secret(run)
+    check_cut(*check_listener(run))
     it = Restarted(run)
     pair = check_players(it)
     check_pings(it, pair)

@@ -17,7 +17,7 @@ new-requires g c =
     let switches : length ethernet.switches.items ≡ length (ethernet_ports ports) = ap length c.in_ok-ethernet.ensures.switches ∙ length-map (ethernet_ports ports) switch_of in
     let ends : length (remote_counts ethernet.sockets.ethernet.items) ≡ length (ethernet_ports ports) = length-map ethernet.sockets.ethernet.items (λ w. length w.ends.items) ∙ same_length (λ w. w.ends.items) (λ p. p.ends.items) ethernet.sockets.ethernet.items (ethernet_ports ports) c.in_ok-ethernet.ensures.ends in
     let servers = c.in_ok-servers.servers in
-    let rooms : length servers.servers.items ≡ length (ipxnet_ports ports) = ap length c.in_ok-servers.ensures.servers ∙ length-map (ipxnet_ports ports) (server_of_port c.args.secret) in
+    let rooms : length servers.servers.items ≡ length (ipxnet_ports ports) = ap length c.in_ok-servers.ensures.servers ∙ length-map (ipxnet_ports ports) (server_of_port c.args.kept.now.secret c.args.kept.now.clients.items) in
     let doors : length servers.sockets.sockets.items ≡ length (ipxnet_ports ports) = sym (length-map servers.sockets.sockets.items prefixes_heard) ∙ as_many_lists (ipxnet_ports ports) (map prefixes_heard servers.sockets.sockets.items) c.in_ok-servers.ensures.registering in
     all_fit ports c.in_ok-port_indices.port_indices.items (length c.in_ok-datagrams.datagrams.device.device.sockets.items) (min (length ethernet.switches.items) (length (remote_counts ethernet.sockets.ethernet.items)))
     (min (length servers.servers.items) (length servers.sockets.sockets.items))
