@@ -320,7 +320,6 @@ step place t l (Turn now) (none, apart, early) le hidden =
     let left : ServerView = server_pinging now l in
     let clients = none_pinged (is_client_at place) (is_pinged (record { before = l.pinged; now = now })) left.clients (still_none place l (Turn now) none hidden) in
     omega (arith, clients, turn_due place l.pinged now left.noted (omega (arith, early, le)), due_filter (is_to_be_asked l.pinged) place l.pinged l.noted)
-
 step place t l (Again from now) (none, apart, early) le hidden =
     let b = is_some (client_at from l.clients) || is_joined_place from l.routers in
     let after : ServerView = server_after l (Again from now) in
