@@ -102,7 +102,7 @@ const SITES: [(&str, &str, &str); 26] = [
     (
         PLAIN,
         "peers = 1\n",
-        "such as [\"198.51.100.7\", \"203.0.113.9\"]",
+        "such as [\"203.0.113.0/24\", \"friend.example\"]",
     ),
     (
         PLAIN,
