@@ -48,7 +48,9 @@ def dropped_for(reason):
 
 def wait_for(client, seconds=2):
     """Waits until something comes to a client, and takes it."""
-    select.select([client.socket], [], [], seconds)
+    poll = select.poll()
+    poll.register(client.socket, select.POLLIN)
+    poll.poll(1000 * seconds)
     return client.take()
 
 
