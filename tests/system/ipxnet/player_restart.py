@@ -163,7 +163,13 @@ def check_listener(run):
     it.again(lambda text: text.replace(NETWORK, NETWORKS[1]))
     run.check("it gets none if the port has another network than it had", not asked(listener, LAST_ASK_SECONDS + 1))
     it.again(lambda _text: wanted, f'peers = ["{PLAYERS[1]}"]\n')
-    run.check("nor if it may not register", not asked(listener, LAST_ASK_SECONDS + 1))
+    asked(listener, LAST_ASK_SECONDS + 1)
+    listener.got = []
+    listener.send(shows(listener.node))
+    other = registered((PLAYERS[1], 0), it.place)
+    to_all(other, b"who may listen?")
+    run.check("who may not register any more is no client by its answer", wait_for(listener, 1) == [], str(listener.got or ""))
+    other.end()
     return it, listener
 
 
