@@ -5,7 +5,7 @@ use Rattle.ipx_config.specs.SitePorts.{router_port_of_kind}
 use Rattle.ipx_site.proofs.KindLists.{as_many_port_indices}
 use Rattle.ipx_site.proofs.routing.start.Goals as goal
 
-pub new-requires-2 : goal.new-requires-2
-new-requires-2 g c =
+pub new-requires-3 : goal.new-requires-3
+new-requires-3 g c =
     let ports = ap length c.in_ok-core.ensures.router ∙ length-map c.args.site.ports.items router_port_of_kind in
     ap length (c.in_ok-ports.ensures.port_indices ∙ ap port_indices_of c.deref-2.ensures.value) ∙ as_many_port_indices [] c.args.site.ports.items ∙ sym ports
