@@ -1,5 +1,4 @@
 pub mod Secrets
-pub mod ClientsFile
 pub mod KnownPlaces
 pub mod ControlSenders
 pub mod SiteCore

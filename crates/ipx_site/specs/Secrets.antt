@@ -1,5 +1,5 @@
 -- The file of a router's secret and of its ipxnet clients. Defined by this project.
-use Rattle.std.specs.Prelude.{Vec, ◌≡◌, ◌⊎◌, ℕ, List, [], ◌∷◌, ◌++◌, All, Ok, Option, Some, None}
+use Rattle.std.specs.Prelude.{Vec, ◌≡◌, ◌⊎◌, ℕ, List, [], ◌∷◌, ◌++◌, All, Ok, Option, Some, None, drop, length, min, take}
 use Rattle.std.specs.Global.{Global}
 use Rattle.hex.specs.Hex.{decode_sized, encode_lower}
 use Rattle.ipx_table_dump.specs.ClientsText.{IsClientPlace, IsClientsText, clients_text}
@@ -12,29 +12,27 @@ use Rattle.ipx_site.specs.declared.secret_file.KeptText.TheVariants as Texts
 abbrev pub IsSecretText : List ℕ → Secret → Type 0
 IsSecretText line s = (digits : List ℕ) × (line ≡ digits ++ 10 ∷ []) × (decode_sized digits 32 ≡ Ok s.0)
 
--- a text is this secret and these clients: the line of the secret, and after it nothing, as in files of before, or
--- the text of the clients
-pub record IsKeptText (text : List ℕ) (secret : Secret) (clients : List ClientPlace) : Type 0 where
-  pub line : List ℕ
-  pub rest : List ℕ
-  pub spelled : text ≡ line ++ rest
-  pub first : IsSecretText line secret
-  pub listed : ((rest ≡ []) × (clients ≡ [])) ⊎ IsClientsText clients rest
+-- the bytes in which the line of a secret can be: the first 65 of a text, or all if it has fewer; and those after them
+abbrev pub first_line : List ℕ → List ℕ
+first_line text = take (min (length text) 65) text
 
--- what is read of the text after the line: clients if it lists some, and nothing otherwise
+abbrev pub after_line : List ℕ → List ℕ
+after_line text = drop (min (length text) 65) text
+
+-- what is read of the text after the line: clients if it lists some, none if it is empty, as in files of before, and
+-- nothing otherwise
 abbrev pub SaysClients : List ℕ → Option (Vec ClientPlace Global) → Type 0
 SaysClients rest None = (clients : List ClientPlace) → All IsClientPlace clients
     → ((rest ≡ []) × (clients ≡ [])) ⊎ IsClientsText clients rest → ⊥
 SaysClients rest (Some v) = ((rest ≡ []) × (v.items ≡ [])) ⊎ IsClientsText v.items rest
 
--- what is read of a text: the secret and the clients that it is; or the secret that it begins with, if what follows
--- it is neither nothing nor the text of clients; or that it begins with none
+-- what is read of a text: the secret of its first line, with the clients that follow; or that secret alone, if what
+-- follows is neither nothing nor the text of clients; or that the line is no secret
 abbrev pub SaysKept : List ℕ → KeptText → Type 0
-SaysKept text (Texts.Whole kept) = IsKeptText text kept.secret kept.clients.items
-SaysKept text (Texts.Cut secret) = (line rest : List ℕ) × (text ≡ line ++ rest) × IsSecretText line secret
-    × ((clients : List ClientPlace) → All IsClientPlace clients
-    → ((rest ≡ []) × (clients ≡ [])) ⊎ IsClientsText clients rest → ⊥)
-SaysKept text Texts.None = (line rest : List ℕ) (secret : Secret) → text ≡ line ++ rest → IsSecretText line secret → ⊥
+SaysKept text (Texts.Whole kept) =
+    IsSecretText (first_line text) kept.secret × SaysClients (after_line text) (Some kept.clients)
+SaysKept text (Texts.Cut secret) = IsSecretText (first_line text) secret × SaysClients (after_line text) None
+SaysKept text Texts.None = (secret : Secret) → IsSecretText (first_line text) secret → ⊥
 
 -- the text that is written
 abbrev pub kept_text : Secret → List ClientPlace → List ℕ

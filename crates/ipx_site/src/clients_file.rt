@@ -1,7 +1,6 @@
 //! Writing the file of a router's secret and of its ipxnet clients while it runs.
 
-ghost use Rattle.std.specs.Prelude.{◌≡◌, ◌≤◌, IfOk, length};
-ghost use Rattle.ipx_site.specs.ClientsFile.{are_same_clients, is_client_listed};
+ghost use Rattle.std.specs.Prelude.{◌≤◌, IfOk, length};
 ghost use Rattle.ipx_table_dump.specs.ClientsText.{max_client_places};
 
 use crate::router_ports::UdpRouterPorts;
@@ -81,16 +80,12 @@ fn last_heard(alloc: Global, servers: &[IpxnetServer]) -> Result<Vec<ClientPlace
 }
 
 /// Whether a client is among these.
-fn is_listed(clients: &[ClientPlace], client: &ClientPlace) -> bool
-    ensures { result ≡ is_client_listed clients.now client.now }
-{
+fn is_listed(clients: &[ClientPlace], client: &ClientPlace) -> bool {
     clients.contains(client)
 }
 
 /// Whether two lists, none of which has a client twice, have the same clients.
-fn are_same(one: &[ClientPlace], other: &[ClientPlace]) -> bool
-    ensures { result ≡ are_same_clients one.now other.now }
-{
+fn are_same(one: &[ClientPlace], other: &[ClientPlace]) -> bool {
     one.len() == other.len() && one.iter().all(|client| is_listed(other, client))
 }
 

@@ -81,13 +81,11 @@ fn clients_after(alloc: Global, rest: &[u8]) -> Result<Option<Vec<ClientPlace>>,
 pub fn kept_in(alloc: Global, text: &[u8]) -> Result<KeptText, AllocError>
     ensures { IfOk result (SaysKept text.now) }
 {
-    if text.len() < LINE_SIZE {
-        return Ok(KeptText::None);
-    }
-    let Some(secret) = secret_in(&text[..LINE_SIZE]) else {
+    let (line, rest) = text.split_at(text.len().min(LINE_SIZE));
+    let Some(secret) = secret_in(line) else {
         return Ok(KeptText::None);
     };
-    match clients_after(alloc, &text[LINE_SIZE..])? {
+    match clients_after(alloc, rest)? {
         Some(clients) => Ok(KeptText::Whole(KeptClients { secret, clients })),
         None => Ok(KeptText::Cut(secret)),
     }

@@ -8,13 +8,13 @@ use Rattle.ipx_site.proofs.running_router.RunningRouter.keep.Goals as goal
 
 pub returns-clause-told : goal.returns-clause-told
 returns-clause-told g c =
-    let s = c.write_metrics.new.self in
+    let s = c.write_clients.new.self in
     let told = subst (λ (n : EventCounts). AreLoggedIfDue (counts_to_log n) c.args.now s.warnings.causes c.tell.new.self.causes) c.metrics-metrics.ensures.happened c.tell.ensures in
     subst (λ (t : Warnings). AreLoggedIfDue (counts_to_log (happened s.totals s.core s.ports)) c.args.now t.causes c.tell.new.self.causes)
-    (c.write_metrics.ensures.warnings ∙ c.look.ensures.warnings ∙ c.ask.ensures.warnings) told
+    (c.write_clients.ensures.warnings ∙ c.write_metrics.ensures.warnings ∙ c.look.ensures.warnings ∙ c.ask.ensures.warnings) told
 
 pub returns-clause-core : goal.returns-clause-core
 returns-clause-core g c =
     let self = c.args.self.now in
-    let kept = subst (λ (core : SiteCore). AsksAgain c.args.now self.asked c.ask.new.self.asked self.core core) (sym (c.write_metrics.ensures.core ∙ c.look.ensures.core)) c.ask.ensures.core in
-    subst (λ (asked : ℕ). AsksAgain c.args.now self.asked asked self.core c.write_metrics.new.self.core) (sym (c.write_metrics.ensures.asked ∙ c.look.ensures.asked)) kept
+    let kept = subst (λ (core : SiteCore). AsksAgain c.args.now self.asked c.ask.new.self.asked self.core core) (sym (c.write_clients.ensures.core ∙ c.write_metrics.ensures.core ∙ c.look.ensures.core)) c.ask.ensures.core in
+    subst (λ (asked : ℕ). AsksAgain c.args.now self.asked asked self.core c.write_clients.new.self.core) (sym (c.write_clients.ensures.asked ∙ c.write_metrics.ensures.asked ∙ c.look.ensures.asked)) kept
