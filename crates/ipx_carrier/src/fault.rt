@@ -10,7 +10,7 @@ use thiserror::Error;
 #[derive(Clone, Copy, Debug, PartialEq, Eq, Error)]
 pub enum CarrierFault {
     /// Its first two bytes are not both zero.
-    #[error("the node stands for no IP address")]
+    #[error("the node has no IP address")]
     NotMapped,
 }
 

@@ -4,7 +4,7 @@ ghost use Rattle.std.specs.Prelude.{◌≡◌, ◌<◌, ◌≤◌, ◌++◌, [],
 ghost use Rattle.spx_link.specs.Limits.{most_units};
 ghost use Rattle.spx_messages.specs.Taking.{taken_view};
 ghost use Rattle.spx_messages.specs.Message.{message_view};
-ghost use Rattle.ipx_net_hosts.specs.Hosts.{FitTogether, KeepsMarks, MayAddEnd, SameHomes, stands};
+ghost use Rattle.ipx_net_hosts.specs.Hosts.{FitTogether, KeepsMarks, MayAddEnd, SameHomes, is_present};
 ghost use Rattle.ipx_net_hosts.specs.Refusing.{close_fault, dial_fault, end_held, send_fault};
 ghost use Rattle.spx_theory.specs.HostSteps.{unit_notes, whole_notes};
 ghost use Rattle.ipx_net.specs.AnswerView as views;
@@ -62,7 +62,7 @@ pub fn send(
     now: u64,
 ) -> Result<StepResult, OutOfMemory>
     requires order { FitTogether hosts.old }
-    requires stands { stands hosts.old who ≡ true }
+    requires present { is_present hosts.old who ≡ true }
     ensures grows { IfOk result (λ g. GrowsWorld hosts.old hosts.new first now (step_result_view g)
         (Sending who (message_view message))) }
     ensures memory { IsMade result → send_fault
@@ -85,7 +85,7 @@ pub fn close(
     now: u64,
 ) -> Result<StepResult, OutOfMemory>
     requires order { FitTogether hosts.old }
-    requires stands { stands hosts.old who ≡ true }
+    requires present { is_present hosts.old who ≡ true }
     ensures grows { IfOk result
         (λ g. GrowsWorld hosts.old hosts.new first now (step_result_view g) (Closing who)) }
     ensures memory { IsMade result
@@ -110,7 +110,7 @@ pub fn pace(
     now: u64,
 ) -> StepResult
     requires order { FitTogether hosts.old }
-    requires stands { stands hosts.old who ≡ true }
+    requires present { is_present hosts.old who ≡ true }
     ensures grows { GrowsWorld hosts.old hosts.new first now (step_result_view result)
         (Pacing who window manual) }
     ensures quiet { step_result_view result ≡ record { parcels = []; notes = []; answer = views.Done } }
@@ -132,7 +132,7 @@ pub fn again(
     now: u64,
 ) -> StepResult
     requires order { FitTogether hosts.old }
-    requires stands { stands hosts.old who ≡ true }
+    requires present { is_present hosts.old who ≡ true }
     ensures grows { GrowsWorld hosts.old hosts.new first now (step_result_view result)
         (AskingAgain who place) }
     ensures quiet { step_result_view result ≡ record { parcels = []; notes = []; answer = views.Done } }
@@ -152,7 +152,7 @@ pub fn release(
     now: u64,
 ) -> Result<StepResult, OutOfMemory>
     requires order { FitTogether hosts.old }
-    requires stands { stands hosts.old who ≡ true }
+    requires present { is_present hosts.old who ≡ true }
     ensures grows { IfOk result
         (λ g. GrowsWorld hosts.old hosts.new first now (step_result_view g) (Releasing who)) }
     ensures homes { SameHomes hosts.old hosts.new }
@@ -227,7 +227,7 @@ pub fn take(
     now: u64,
 ) -> Result<StepResult, OutOfMemory>
     requires order { FitTogether hosts.old }
-    requires stands { stands hosts.old who ≡ true }
+    requires present { is_present hosts.old who ≡ true }
     ensures grows { IfOk result
         (λ g. GrowsWorld hosts.old hosts.new first now (step_result_view g) (TakingFrom who)) }
     ensures memory { IsMade result

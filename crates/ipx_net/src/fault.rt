@@ -18,7 +18,7 @@ pub enum NetFault {
     #[error("the place is not there, or not on the network of the parcel")]
     NotOnSegment,
     /// There is no such end, or it was released.
-    #[error("no end of this number stands")]
+    #[error("there is no end of this number")]
     NoSuchEnd,
     /// The log has 1,000,000 entries.
     #[error("the log is full, at most 1000000 entries")]

@@ -1,7 +1,7 @@
 //! The faults that are found before an event does anything.
 
 ghost use Rattle.std.specs.Prelude.{◌≡◌, ◌<◌, ℕ, length, nat_lt, option_map, slice_get};
-ghost use Rattle.ipx_net_hosts.specs.Hosts.{stands};
+ghost use Rattle.ipx_net_hosts.specs.Hosts.{is_present};
 ghost use Rattle.ipx_net.specs.NetFaults.{end_fault, fault_before, member_fault, network_at, place_fault, poll_fault};
 ghost use Rattle.ipx_net.specs.IndexedLogView.{IndexedLogView};
 ghost use Rattle.ipx_net.specs.NetView.{net_of};
@@ -18,9 +18,9 @@ use ipx_wire::Network;
 
 /// The fault if there is no such end, or it was released.
 fn end_fault(hosts: &Hosts, who: usize) -> Option<NetFault>
-    ensures { result ≡ end_fault (stands hosts.now who) }
+    ensures { result ≡ end_fault (is_present hosts.now who) }
 {
-    if hosts.stands(who) {
+    if hosts.is_present(who) {
         None
     } else {
         Some(NetFault::NoSuchEnd)

@@ -24,7 +24,7 @@ use Rattle.spx_theory.specs.Note.{Opened, Released}
 use Rattle.spx_theory.specs.EndCalls.{ChangesQuietly, DialsFrom, ReleasesOf}
 use Rattle.spx_theory.specs.HostSteps.{TakesOf, ends_after, here_after, marked_over, unit_notes, whole_notes}
 use Rattle.spx_theory.specs.World.{EndNow, HostState, IsPresentAt, end_at, held_in, held_of, home_at}
-use Rattle.ipx_net_hosts.specs.Hosts.{DeliveredAt, FitTogether, HostsView, LeftBy, LeftAs, LeftAt, Noting, StillPresent, is_lost, stands, is_present_now}
+use Rattle.ipx_net_hosts.specs.Hosts.{DeliveredAt, FitTogether, HostsView, LeftBy, LeftAs, LeftAt, Noting, StillPresent, is_lost, is_present, is_present_now}
 use Rattle.ipx_net_hosts.specs.Refusing.{end_held, held_by, want}
 use Rattle.ipx_net_hosts.specs.HostStates.{ChangesAt, DialsAt, ReleasesAt, RefusalKeeps, StaysAt}
 use Rattle.ipx_net_hosts.specs.declared.refusal.Refusal.{Refusal}
@@ -52,7 +52,7 @@ holds_still (Some e) is = (e, refl, not_true e.released is)
     not_true true is = absurd (cc is)
     not_true false is = refl
 
-pub standing : (v : HostsView) (ss : List HostState) (es : List EndNow) (who : ℕ) (e : EndNow) → made ss es ≡ v → e ≡ get_or es who e → FitTogether v → stands v who ≡ true → StillPresent v who e.host e.id
+pub standing : (v : HostsView) (ss : List HostState) (es : List EndNow) (who : ℕ) (e : EndNow) → made ss es ≡ v → e ≡ get_or es who e → FitTogether v → is_present v who ≡ true → StillPresent v who e.host e.id
 standing v ss es who e view read order is =
     let s : (x : EndNow) × (slice_get v.ends who ≡ Some x) × (x.released ≡ false) = holds_still (slice_get v.ends who) is in
     let at : slice_get es who ≡ Some s.0 = ap (λ (u : HostsView). slice_get u.ends who) view ∙ s.1 in

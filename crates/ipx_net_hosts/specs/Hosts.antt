@@ -61,8 +61,8 @@ abbrev pub MayAddEnd : HostsView → HostsView → Type 0
 MayAddEnd old new = FollowsMarks (marks_of old.ends) (marks_of new.ends)
 
 -- there is such an end, and it is not released
-abbrev pub stands : HostsView → ℕ → Bool
-stands v who = is_present_now (slice_get v.ends who)
+abbrev pub is_present : HostsView → ℕ → Bool
+is_present v who = is_present_now (slice_get v.ends who)
 
 -- an end that is not released: its host, its id there, and what is held under that id
 pub record StillPresent (v : HostsView) (who host id : ℕ) : Type 0 where

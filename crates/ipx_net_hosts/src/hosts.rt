@@ -15,7 +15,7 @@ ghost use Rattle.spx_messages.specs.OneValue.{IsBufferStill};
 ghost use Rattle.spx_messages.specs.Taking.{overlong, result_view};
 ghost use Rattle.ipx_net_hosts.specs.HostStates.{reader_of, speaker};
 ghost use Rattle.ipx_net_hosts.specs.EndStates.{here_at, state_on_host};
-ghost use Rattle.ipx_net_hosts.specs.Hosts.{DeliveredAt, FitTogether, KeepsMarks, LeftAs, LeftBy, MayAddEnd, Noting, PolledAt, SameHomes, StillPresent, is_lost, stands};
+ghost use Rattle.ipx_net_hosts.specs.Hosts.{DeliveredAt, FitTogether, KeepsMarks, LeftAs, LeftBy, MayAddEnd, Noting, PolledAt, SameHomes, StillPresent, is_lost, is_present};
 ghost use Rattle.ipx_net_hosts.specs.Refusing.{CloseIsRefused, DialIsLeft, Overruns, PushesTo, SendIsRefused, TakeIsRefused, close_fault, dial_fault, end_held, send_fault, want};
 
 use crate::end::EndNow;
@@ -74,8 +74,8 @@ impl Hosts {
     }
 
     /// Whether there is such an end, and it was not released.
-    pub fn stands(&self, who: usize) -> bool
-        ensures { result ≡ stands self.now who }
+    pub fn is_present(&self, who: usize) -> bool
+        ensures { result ≡ is_present self.now who }
     {
         match self.ends.get(who) {
             Some(end) => !end.released,
@@ -86,7 +86,7 @@ impl Hosts {
     /// The host of a live end, and its id there.
     fn place(&self, who: usize) -> (usize, u16)
         requires order { FitTogether self.now }
-        requires stands { stands self.now who ≡ true }
+        requires present { is_present self.now who ≡ true }
         ensures { StillPresent self.now who result.0 result.1 }
     {
         let end = &self.ends[who];
@@ -141,7 +141,7 @@ impl Hosts {
         now: u64,
     ) -> Result<(), EndFault>
         requires order { FitTogether self.old }
-        requires stands { stands self.old who ≡ true }
+        requires present { is_present self.old who ≡ true }
         ensures ok { OnOk result (Noting self.old self.new now
             (HandsIn who (message_view message.now) ∷ [])
             (λ w w'. SendsTo w who (message_view message.now) w')) }
@@ -161,7 +161,7 @@ impl Hosts {
     /// out of memory.
     pub fn close(&mut self, alloc: Global, who: usize, now: u64) -> Result<(), EndFault>
         requires order { FitTogether self.old }
-        requires stands { stands self.old who ≡ true }
+        requires present { is_present self.old who ≡ true }
         ensures ok { OnOk result (Noting self.old self.new now (AsksEnd who ∷ [])
             (λ w w'. Closes w who w')) }
         ensures sound { OnOk result
@@ -179,7 +179,7 @@ impl Hosts {
     /// Sets the window of a live end's link, and whether it is manual. It is not refused.
     pub fn pace(&mut self, who: usize, window: u16, manual: bool, now: u64) -> Result<(), EndFault>
         requires order { FitTogether self.old }
-        requires stands { stands self.old who ≡ true }
+        requires present { is_present self.old who ≡ true }
         ensures ok { OnOk result (Noting self.old self.new now []
             (λ w w'. PacesOf w who window manual w')) }
         ensures done { IsOk result }
@@ -193,7 +193,7 @@ impl Hosts {
     /// Asks the link of a live end for the unit at a place again. It is not refused.
     pub fn again(&mut self, who: usize, place: u16, now: u64) -> Result<(), EndFault>
         requires order { FitTogether self.old }
-        requires stands { stands self.old who ≡ true }
+        requires present { is_present self.old who ≡ true }
         ensures ok { OnOk result (Noting self.old self.new now []
             (λ w w'. AsksAgainOf w who place w')) }
         ensures done { IsOk result }
@@ -207,7 +207,7 @@ impl Hosts {
     /// Releases a live end, with its link. It is not refused.
     pub fn release(&mut self, who: usize, now: u64) -> Result<(), EndFault>
         requires order { FitTogether self.old }
-        requires stands { stands self.old who ≡ true }
+        requires present { is_present self.old who ≡ true }
         ensures ok { OnOk result (Noting self.old self.new now (Released who ∷ [])
             (λ w w'. ReleasesOf w who w')) }
         ensures done { IsOk result }
@@ -231,7 +231,7 @@ impl Hosts {
         now: u64,
     ) -> (Option<Unit>, Result<Taken, EndFault>)
         requires order { FitTogether self.old }
-        requires stands { stands self.old who ≡ true }
+        requires present { is_present self.old who ≡ true }
         ensures takes { result.1 ≢ Err want → Noting self.old self.new now
             (unit_notes (result_view result.1) result.0 who
             ++ whole_notes (result_view result.1) who)

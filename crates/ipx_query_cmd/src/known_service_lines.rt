@@ -16,7 +16,7 @@ use crate::service_lines::{HEAD, head_to_line};
 use ipx_table_dump::{ServiceWords, services_of_text};
 use std::alloc::{AllocError, Global};
 
-/// The type that stands for all.
+/// The type that means all.
 const ALL_TYPES: u16 = 0xffff;
 
 /// Whether a service is of this type, whose digits are given.

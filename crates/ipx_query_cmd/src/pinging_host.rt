@@ -187,7 +187,7 @@ impl<'a, R: Net + Clock> PingingHost<'a, R> {
     }
 
     /// Pings, turn by turn, until it is over, and writes each line as it comes. It returns that
-    /// time in milliseconds. It fails if the clock stands still.
+    /// time in milliseconds. It fails if the clock does not move.
     pub fn ping<W: Write>(&mut self, alloc: Global, writer: &mut W) -> Result<u64, AskFault>
         ensures pings { OnOk result ((turns : List PingTurn)
             × PingsOn turns self.old.clock.last self.new.clock.last self.old.core self.new.core

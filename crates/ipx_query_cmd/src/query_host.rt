@@ -161,7 +161,7 @@ impl<'a, R: Net + Clock> QueryHost<'a, R> {
     }
 
     /// Asks, turn by turn, until it is over. It returns that time in milliseconds. It fails if the
-    /// clock stands still.
+    /// clock does not move.
     pub fn ask(&mut self, alloc: Global) -> Result<u64, AskFault>
         ensures asks { OnOk result ((turns : List Turn)
             × AsksOn turns self.old.clock.last self.new.clock.last self.old.core self.new.core) }

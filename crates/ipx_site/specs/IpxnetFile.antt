@@ -1,4 +1,4 @@
--- The file that `ipx ipxnet` stands for: one ipxnet port, at which everybody may register. Defined by this
+-- The file that `ipx ipxnet` is short for: one ipxnet port, at which everybody may register. Defined by this
 -- project.
 use Rattle.std.specs.Prelude.{ℕ, List, ◌++◌, codes}
 use Rattle.std.specs.Fmt.{decimal}

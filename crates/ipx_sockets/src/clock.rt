@@ -72,7 +72,7 @@ impl<'a, R: SystemClock> Clock for SteadyClock<'a, R> {
 
     fn now(&mut self) -> u64
         ensures told { NeverGoesBack self.old result self.new }
-        ensures stands { self.old.stopped ≡ true
+        ensures stays { self.old.stopped ≡ true
             → (result ≡ self.old.last) × (self.new ≡ self.old) }
     {
         if self.stopped {

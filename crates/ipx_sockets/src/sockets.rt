@@ -49,7 +49,7 @@ pub struct UdpSockets {
     sender: Option<[u8; 4]>,
 }
 
-/// The socket of a port. 0.0.0.0 stands for every address of a machine, so peers could not name it,
+/// The socket of a port. 0.0.0.0 means every address of a machine, so peers could not name it,
 /// and it is refused.
 fn port_socket<R: Net>(rt: &R, ip: [u8; 4], udp_port: u16) -> io::Result<PortSocket>
     ensures udp_port { IfOk result (λ s. s.udp_port ≡ udp_port) }

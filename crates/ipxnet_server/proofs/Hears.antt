@@ -142,9 +142,9 @@ module _ (l : ServerView) (from : SocketAddrV4) (size : ℕ) (thirty : ipx_heade
       member = λ e. refl;
     }
 
-    stranger : (o : Option ServerDrop) → Sound (stranger_hears o)
-    stranger None = dropped Unregistered
-    stranger (Some d) = dropped d
+    no_client : (o : Option ServerDrop) → Sound (stranger_hears o)
+    no_client None = dropped Unregistered
+    no_client (Some d) = dropped d
 
     newcomer : (node : Node) (o : Option ServerDrop) → size ≡ ipx_header_size → Sound (new_client_hears l.port node o)
     newcomer node None is = registered (registration_answer l.port node) is
@@ -241,7 +241,7 @@ module _ (l : ServerView) (from : SocketAddrV4) (size : ℕ) (thirty : ipx_heade
           (either Sound (is_for_server l.port p.header) _ _ (here p) (elsewhere p))
 
     from_place : (p : PacketView) (now : ℕ) (o : Option Client) → client_at from l.clients ≡ o → Sound (server_hears_from l from p size now o)
-    from_place p now None known = stranger (stranger_drop l from p.header now)
+    from_place p now None known = no_client (stranger_drop l from p.header now)
     from_place p now (Some c) known = known_hears c known p now
 
     from_client : (p : PacketView) (now : ℕ) → Sound (if is_registration p.header size then registration_hears l from now (client_at from l.clients) else server_hears_from l from p size now (client_at from l.clients))

@@ -165,9 +165,9 @@ others_known place now known c once is k d lt isnt =
     }
 
 others_new : (node : Node) (place : SocketAddrV4) (now : ℕ) (known : List Client) → client_at place known ≡ None → client_of_node node known ≡ None → All (λ k. AreTwoClients k (new_client node place now)) known
-others_new node place now known stranger free k d lt =
+others_new node place now known no_client free k d lt =
     record {
-      places = at_another place (get_or known k d) (none_passes (is_client_at place) known stranger k d lt);
+      places = at_another place (get_or known k d) (none_passes (is_client_at place) known no_client k d lt);
       nodes = of_another node (get_or known k d) (none_passes (has_client_node node) known free k d lt);
     }
 
@@ -331,7 +331,7 @@ each_by place q d kept known false is few all = omega (arith, all)
 
 pub once_with : (most room now : ℕ) (node : Node) (place : SocketAddrV4) (known : List Client) → AreClients most known room
     → client_at place known ≡ None → client_of_node node known ≡ None → AreClients most (clients_with most node place now known) room
-once_with most room now node place known are stranger free =
+once_with most room now node place known are no_client free =
     let goes : Option Client = client_that_goes place known in
     let kept : List Client = clients_but goes known in
     let d : Client = new_client node place now in
@@ -339,7 +339,7 @@ once_with most room now node place known are stranger free =
     let some : 1 ≤ most = are.some in
     let within : length known ≤ most = are.within in
     let few : length kept ≤ length known = but_short goes known in
-    let apart : All (λ k. AreTwoClients k d) kept = but_all (λ k. AreTwoClients k d) goes known (others_new node place now known stranger free) in
+    let apart : All (λ k. AreTwoClients k d) kept = but_all (λ k. AreTwoClients k d) goes known (others_new node place now known no_client free) in
     let pairs : EachClientOnce (kept ++ d ∷ []) = all_pairs_push AreTwoClients kept d (but_pairs goes known are.once) apart in
     let joined : drop n (kept ++ d ∷ []) ≡ drop n kept ++ d ∷ [] = drop-append-le n kept (d ∷ []) (omega (arith, some, within, few)) in
     record {

@@ -228,7 +228,7 @@ impl Clients {
     /// If its IP address has too many, or if there are too many, the one heard before the others is
     /// removed.
     pub fn put(&mut self, node: Node, place: SocketAddrV4, now: u64)
-        requires stranger { client_at place self.old.known ≡ None }
+        requires no_client { client_at place self.old.known ≡ None }
         requires free { client_of_node node self.old.known ≡ None }
         ensures put { self.new ≡ record self.old {
           known = clients_with self.old.most node place now self.old.known;

@@ -83,7 +83,7 @@ impl IpxnetServer {
     ) -> bool
         ensures admits { result ≡ makes_client self.now from header size now }
         ensures apart { result ≡ true → is_joined_place from self.now.routers ≡ false }
-        ensures stranger { result ≡ true → client_at from self.now.clients ≡ None }
+        ensures no_client { result ≡ true → client_at from self.now.clients ≡ None }
         ensures room { result ≡ true
             → (is_address_full now from self.now.clients ≡ false)
             × (is_server_full self.now.most now self.now.clients ≡ false) }

@@ -1,5 +1,5 @@
 //! Laws on what joined servers learn, on who is noted, on who is pinged how often, on how often
-//! a client floods, and on what a stranger gets. They do nothing.
+//! a client floods, and on what an address without a client gets. They do nothing.
 
 ghost use Rattle.ipxnet_server.specs.FloodRuns.{ClientsFloodSeldom};
 ghost use Rattle.ipxnet_server.specs.JoinedLearns.{NoGivenPacketShowsAClient};

@@ -208,7 +208,7 @@ impl IpxnetServer {
 
     /// Who sent from an address becomes a client.
     fn admit(&mut self, from: SocketAddrV4, now: u64)
-        requires stranger { client_at from self.old.clients ≡ None }
+        requires no_client { client_at from self.old.clients ≡ None }
         requires free { client_of_node (node_of_place self.old.port from) self.old.clients
             ≡ None }
         ensures admits { self.new ≡ server_admitting from now self.old }

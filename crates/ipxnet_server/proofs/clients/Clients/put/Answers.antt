@@ -23,9 +23,9 @@ invariant_of-self c =
     let last : c.len-last.result ≡ length room = search rules in
     let behind : c.insert.new.self.items ≡ room ++ d ∷ [] = inserted ∙ ap (λ (i : ℕ). take i room ++ d ∷ drop i room) last ∙ after_all room d in
     let put : c.insert.new.self.items ≡ clients_with most node place now known = behind ∙ ap (λ (l : List Client). l ++ d ∷ []) made in
-    let stranger : client_at place known ≡ None = subst (λ (l : List Client). client_at place l ≡ None) is_known c.requires.stranger in
+    let no_client : client_at place known ≡ None = subst (λ (l : List Client). client_at place l ≡ None) is_known c.requires.no_client in
     let free : client_of_node node known ≡ None = subst (λ (l : List Client). client_of_node node l ≡ None) is_known c.requires.free in
-    let once = once_with most (vec_capacity c.self.inside.known) now node place known c.self.invariant stranger free in
+    let once = once_with most (vec_capacity c.self.inside.known) now node place known c.self.invariant no_client free in
     let all = subst (λ (l : List Client). AreClients most l (vec_capacity c.self.inside.known)) (sym put) once in
     let capacity : vec_capacity c.insert.new.self ≡ vec_capacity c.self.inside.known = search rules in
     subst (λ (n : ℕ). AreClients most c.insert.new.self.items n) (sym capacity) all
