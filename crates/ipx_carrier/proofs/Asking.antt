@@ -25,8 +25,8 @@ heard_more rs port bytes =
     let r : List Reception = record { port = port; bytes = bytes } ∷ [] in
     omega (arith, count-append (λ (x : Reception). is_some x.bytes) rs r)
 
-pub asked_more : {C A : Type 0} (hears : Hears C) (now port : ℕ) (s t u : Option (TrafficOf A)) (a b c : C) (count more : ℕ) (heard : Bool) → AsksPorts hears now port s t a b count → AsksPort hears now port t u b c heard → more ≡ count + cond heard 1 0 → AsksPorts hears now (port + 1) s u a c more
-asked_more hears now port s t u a b c count more heard h k e =
+pub asked_more : {C S A : Type 0} (hears : Hears C) (receives : S → ℕ → ℕ → Option (List ℕ) → S → Type 0) (now size port : ℕ) (s t u : Option (TrafficOf A)) (x y : S) (a b c : C) (count more : ℕ) (heard : Bool) → AsksPorts hears now port s t a b count → AsksPort hears receives now size port t u x y b c heard → more ≡ count + cond heard 1 0 → AsksPorts hears now (port + 1) s u a c more
+asked_more hears receives now size port s t u x y a b c count more heard h k e =
     let rs = h.0 in
     let r : List Reception = record { port = port; bytes = k.0 } ∷ [] in
     let is : heard ≡ is_some k.0 = k.3 in
@@ -39,7 +39,7 @@ asked_more hears now port s t u a b c count more heard h k e =
       e ∙ ap (λ b. count + cond b 1 0) is ∙ ap (λ n. n + cond (is_some k.0) 1 0) counted ∙ sym (heard_more rs port k.0),
     )
 
-pub asked_some : {C A : Type 0} (hears hear_out_of_memory : Hears C) (now port ports : ℕ) (s t u : Option (TrafficOf A)) (a b c : C) (count : ℕ) (f : RunFault) → AsksPorts hears now port s t a b count → PollFails hears hear_out_of_memory now port t u f b c → port < ports → AsksSomePorts hears hear_out_of_memory now ports s u f a c
-asked_some hears hear_out_of_memory now port ports s t u a b c count f h k e =
+pub asked_some : {C S A : Type 0} (hears hear_out_of_memory : Hears C) (receives : S → ℕ → ℕ → Option (List ℕ) → S → Type 0) (now size port ports : ℕ) (s t u : Option (TrafficOf A)) (x y : S) (a b c : C) (count : ℕ) (f : RunFault) → AsksPorts hears now port s t a b count → PollFails hear_out_of_memory receives now size port t u f x y b c → port < ports → AsksSomePorts hears hear_out_of_memory now ports s u f a c
+asked_some hears hear_out_of_memory receives now size port ports s t u x y a b c count f h k e =
     let long : length h.0 ≡ port = h.1 in
     (h.0, k.0, b, omega arith, passes_received s t u h.0 k.0 h.2 k.1, h.3, subst (λ n. FailsAtPort hear_out_of_memory now n k.0 f b c) (sym long) k.2)

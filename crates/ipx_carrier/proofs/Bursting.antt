@@ -94,123 +94,133 @@ more_counts ts t x y h counts = (
 abbrev pub taken : Report → ℕ → ℕ → TurnTaken
 taken r before after = record { report = r; before = before; after = after }
 
-module _ {C K : Type 0} (hears : C → ℕ → List ℕ → ℕ → C → Type 0)
+module _ {C K S : Type 0} (hears : C → ℕ → List ℕ → ℕ → C → Type 0)
     (gives : C → ℕ → Option Given → C → Type 0) (tells : K → ℕ → K → Type 0)
-    (ports : ℕ) {A : Type 0} (transmissions : Ways A) where
+    (receives : S → ℕ → ℕ → Option (List ℕ) → S → Type 0) (sends : S → Given → S → Type 0)
+    (filtered : S → ℕ) (marked : S → Readiness) (ports size : ℕ) {A : Type 0} (transmissions : Ways A) where
   -- this many whole turns, none of them idle, and their counts
-  abbrev pub Goes : ℕ → Batch → ℕ → ℕ → Readiness → Readiness → K → K → C → C → Type 0
-  Goes count b filtered filtered_after marked marked_after clock clock_after old new = (turns : List TurnTaken) × (length turns ≡ count)
-      × ChainBy hears gives tells ports transmissions turns filtered filtered_after marked marked_after clock clock_after old new
+  abbrev pub Goes : ℕ → Batch → S → S → K → K → C → C → Type 0
+  Goes count b driver driver_after clock clock_after old new = (turns : List TurnTaken) × (length turns ≡ count)
+      × ChainBy hears gives tells receives sends filtered marked ports size transmissions turns driver driver_after clock clock_after old new
       × CountsTurns turns b × AreBusy turns
 
-  -- a turn over the same ports and ways
-  ran_here : (here : ℕ) (there : Ways A) (u v : Readiness) (l m : K) (b c : C) (report : Report) → here ≡ ports → there ≡ transmissions
-      → TakesMarkedTurn hears gives tells here there u v l m b c report → TakesMarkedTurn hears gives tells ports transmissions u v l m b c report
-  ran_here here there u v l m b c report e w ran =
-      subst (λ (it : Ways A). TakesMarkedTurn hears gives tells ports it u v l m b c report) w
-      (subst (λ n. TakesMarkedTurn hears gives tells n there u v l m b c report) e ran)
+  -- a turn over the same ports and ways, with a buffer of the same size
+  ran_here : (here wide : ℕ) (there : Ways A) (u v : S) (l m : K) (b c : C) (report : Report) → here ≡ ports → wide ≡ size → there ≡ transmissions
+      → TakesMarkedTurn hears gives tells receives sends marked here wide there u v l m b c report
+      → TakesMarkedTurn hears gives tells receives sends marked ports size transmissions u v l m b c report
+  ran_here here wide there u v l m b c report e f w ran =
+      subst (λ (it : Ways A). TakesMarkedTurn hears gives tells receives sends marked ports size it u v l m b c report) w
+      (subst (λ n. TakesMarkedTurn hears gives tells receives sends marked ports n there u v l m b c report) f
+      (subst (λ n. TakesMarkedTurn hears gives tells receives sends marked n wide there u v l m b c report) e ran))
 
-  chain_on : (ts : List TurnTaken) (t : TurnTaken) (i j : ℕ) (o p q : Readiness) (k l m : K) (a b c : C) → ChainBy hears gives tells ports transmissions ts i j o p k l a b
-      → t.before ≡ j → j ≤ t.after → TakesMarkedTurn hears gives tells ports transmissions p q l m b c t.report
-      → ChainBy hears gives tells ports transmissions (ts ++ t ∷ []) i t.after o q k m a c
-  chain_on [] t i j o p q k l m a b c h e le ran =
-      let from = subst (λ p. TakesMarkedTurn hears gives tells ports transmissions p q l m b c t.report) h.1 ran in
-      let at = subst (λ l. TakesMarkedTurn hears gives tells ports transmissions o q l m b c t.report) h.2 from in (
+  chain_on : (ts : List TurnTaken) (t : TurnTaken) (o p q : S) (k l m : K) (a b c : C)
+      → ChainBy hears gives tells receives sends filtered marked ports size transmissions ts o p k l a b
+      → t.before ≡ filtered p → t.after ≡ filtered q → t.before ≤ t.after
+      → TakesMarkedTurn hears gives tells receives sends marked ports size transmissions p q l m b c t.report
+      → ChainBy hears gives tells receives sends filtered marked ports size transmissions (ts ++ t ∷ []) o q k m a c
+  chain_on [] t o p q k l m a b c h e f le ran =
+      let from = subst (λ p. TakesMarkedTurn hears gives tells receives sends marked ports size transmissions p q l m b c t.report) h.0 ran in
+      let at = subst (λ l. TakesMarkedTurn hears gives tells receives sends marked ports size transmissions o q l m b c t.report) h.1 from in (
+        q,
         m,
         c,
-        q,
-        rw (← h.0) e,
-        rw (← h.0) le,
-        subst (λ b. TakesMarkedTurn hears gives tells ports transmissions o q k m b c t.report) h.3 at,
-        (refl, refl, refl, refl),
+        subst (λ p. t.before ≡ filtered p) h.0 e,
+        f,
+        le,
+        subst (λ b. TakesMarkedTurn hears gives tells receives sends marked ports size transmissions o q k m b c t.report) h.2 at,
+        (refl, refl, refl),
       )
-  chain_on (s ∷ ss) t i j o p q k l m a b c h e le ran =
-      (h.0, h.1, h.2, h.3, h.4, h.5, chain_on ss t s.after j h.2 p q h.0 l m h.1 b c h.6 e le ran)
+  chain_on (s ∷ ss) t o p q k l m a b c h e f le ran =
+      (h.0, h.1, h.2, h.3, h.4, h.5, h.6, chain_on ss t h.0 p q h.1 l m h.2 b c h.7 e f le ran)
 
-  pub goes_nowhere : (i : ℕ) (o : Readiness) (k : K) (a : C) (batch : Batch) → CountsTurns [] batch → Goes 0 batch i i o o k k a a
-  goes_nowhere i o k a batch counts = ([], refl, (refl, refl, refl, refl), counts, All-nil (λ t. IsIdle t → ⊥))
+  pub goes_nowhere : (o : S) (k : K) (a : C) (batch : Batch) → CountsTurns [] batch → Goes 0 batch o o k k a a
+  goes_nowhere o k a batch counts = ([], refl, (refl, refl, refl), counts, All-nil (λ t. IsIdle t → ⊥))
 
   -- one more turn, idle or not
-  one_more : (here count : ℕ) (there : Ways A) (i j n : ℕ) (o p q : Readiness) (k l m : K) (a b c : C) (x : Batch) (report : Report) → here ≡ ports
-      → there ≡ transmissions → (h : Goes count x i j o p k l a b) → j ≤ n → TakesMarkedTurn hears gives tells here there p q l m b c report
-      → ChainBy hears gives tells ports transmissions (h.0 ++ taken report j n ∷ []) i n o q k m a c
-  one_more here count there i j n o p q k l m a b c x report e w h le ran =
-      chain_on h.0 (taken report j n) i j o p q k l m a b c h.2 refl le (ran_here here there p q l m b c report e w ran)
+  one_more : (here wide count : ℕ) (there : Ways A) (o p q : S) (k l m : K) (a b c : C) (x : Batch) (report : Report) → here ≡ ports → wide ≡ size
+      → there ≡ transmissions → (h : Goes count x o p k l a b) → filtered p ≤ filtered q
+      → TakesMarkedTurn hears gives tells receives sends marked here wide there p q l m b c report
+      → ChainBy hears gives tells receives sends filtered marked ports size transmissions (h.0 ++ taken report (filtered p) (filtered q) ∷ []) o q k m a c
+  one_more here wide count there o p q k l m a b c x report e f w h le ran =
+      chain_on h.0 (taken report (filtered p) (filtered q)) o p q k l m a b c h.2 refl refl le (ran_here here wide there p q l m b c report e f w ran)
 
-  pub goes_on : (here count : ℕ) (there : Ways A) (i j n : ℕ) (o p q : Readiness) (k l m : K) (a b c : C) (x y : Batch) (report : Report) → here ≡ ports
-      → there ≡ transmissions → Goes count x i j o p k l a b → j ≤ n → TakesMarkedTurn hears gives tells here there p q l m b c report → CountsOne report x y
-      → (IsIdle (taken report j n) → ⊥) → Goes (count + 1) y i n o q k m a c
-  goes_on here count there i j n o p q k l m a b c x y report e w h le ran counts busy = (
-    h.0 ++ taken report j n ∷ [],
-    omega (arith, length-append h.0 (taken report j n ∷ []), h.1),
-    one_more here count there i j n o p q k l m a b c x report e w h le ran,
-    more_counts h.0 (taken report j n) x y h.3 counts,
-    All-push (λ t. IsIdle t → ⊥) h.0 (taken report j n) h.4 busy,
-  )
+  pub goes_on : (here wide count : ℕ) (there : Ways A) (o p q : S) (k l m : K) (a b c : C) (x y : Batch) (report : Report) → here ≡ ports → wide ≡ size
+      → there ≡ transmissions → Goes count x o p k l a b → filtered p ≤ filtered q
+      → TakesMarkedTurn hears gives tells receives sends marked here wide there p q l m b c report → CountsOne report x y
+      → (IsIdle (taken report (filtered p) (filtered q)) → ⊥) → Goes (count + 1) y o q k m a c
+  goes_on here wide count there o p q k l m a b c x y report e f w h le ran counts busy =
+      let t = taken report (filtered p) (filtered q) in (
+        h.0 ++ t ∷ [],
+        omega (arith, length-append h.0 (t ∷ []), h.1),
+        one_more here wide count there o p q k l m a b c x report e f w h le ran,
+        more_counts h.0 t x y h.3 counts,
+        All-push (λ t. IsIdle t → ⊥) h.0 t h.4 busy,
+      )
 
-module _ {C K : Type 0} (hears hear_out_of_memory : C → ℕ → List ℕ → ℕ → C → Type 0)
+module _ {C K S : Type 0} (hears hear_out_of_memory : C → ℕ → List ℕ → ℕ → C → Type 0)
     (gives : C → ℕ → Option Given → C → Type 0) (next_out_of_memory : C → ℕ → C → Type 0)
-    (tells : K → ℕ → K → Type 0) (ports : ℕ) {A : Type 0} (transmissions : Ways A) where
-  nothing_more : (fault : Option RunFault) (j : ℕ) (o : Readiness) (l : K) (b : C) → fault ≡ None
-      → EndsBy hears hear_out_of_memory gives next_out_of_memory tells ports transmissions fault j j o o l l b b
-  nothing_more fault j o l b e =
-      subst (λ (it : Option RunFault). EndsBy hears hear_out_of_memory gives next_out_of_memory tells ports transmissions it j j o o l l b b) (sym e) (refl, refl, refl, refl)
+    (tells : K → ℕ → K → Type 0) (receives : S → ℕ → ℕ → Option (List ℕ) → S → Type 0)
+    (sends : S → Given → S → Type 0) (filtered : S → ℕ) (marked : S → Readiness) (ports size : ℕ)
+    {A : Type 0} (transmissions : Ways A) where
+  nothing_more : (fault : Option RunFault) (o : S) (l : K) (b : C) → fault ≡ None
+      → EndsBy hears hear_out_of_memory gives next_out_of_memory tells receives sends filtered marked ports size transmissions fault o o l l b b
+  nothing_more fault o l b e =
+      subst (λ (it : Option RunFault). EndsBy hears hear_out_of_memory gives next_out_of_memory tells receives sends filtered marked ports size transmissions it o o l l b b) (sym e) (refl, refl, refl)
 
   -- no fault ended the batch, and it is not quiet: all turns were taken
-  pub ends_at_most : (count most : ℕ) (i j : ℕ) (o p : Readiness) (k l : K) (a b : C) (x : Batch) → count ≡ most → x.fault ≡ None → x.quiet ≡ false
-      → Goes hears gives tells ports transmissions count x i j o p k l a b
-      → BurstsBy hears hear_out_of_memory gives next_out_of_memory tells ports transmissions most x i j o p k l a b
-  ends_at_most count most i j o p k l a b x all e f h = (
+  pub ends_at_most : (count most : ℕ) (o p : S) (k l : K) (a b : C) (x : Batch) → count ≡ most → x.fault ≡ None → x.quiet ≡ false
+      → Goes hears gives tells receives sends filtered marked ports size transmissions count x o p k l a b
+      → BurstsBy hears hear_out_of_memory gives next_out_of_memory tells receives sends filtered marked ports size transmissions most x o p k l a b
+  ends_at_most count most o p k l a b x all e f h = (
     h.0,
-    j,
     p,
     l,
     b,
     h.2,
-    nothing_more x.fault j p l b e,
+    nothing_more x.fault p l b e,
     h.3,
     subst (λ (it : Option RunFault). Stops most h.0 it x.quiet) (sym e)
         (subst (λ (it : Bool). Stops most h.0 None it) (sym f) (omega (arith, h.1, all), h.4)),
   )
 
-  pub ends_quietly : (here count most : ℕ) (there : Ways A) (i j n : ℕ) (o p q : Readiness) (k l m : K) (a b c : C) (x y z : Batch) (report : Report) → here ≡ ports
-      → there ≡ transmissions → count < most → Goes hears gives tells ports transmissions count x i j o p k l a b → n ≡ j
-      → TakesMarkedTurn hears gives tells here there p q l m b c report → (report.heard ≡ 0) × (report.sent ≡ 0)
+  pub ends_quietly : (here wide count most : ℕ) (there : Ways A) (o p q : S) (k l m : K) (a b c : C) (x y z : Batch) (report : Report) → here ≡ ports → wide ≡ size
+      → there ≡ transmissions → count < most → Goes hears gives tells receives sends filtered marked ports size transmissions count x o p k l a b
+      → filtered q ≡ filtered p
+      → TakesMarkedTurn hears gives tells receives sends marked here wide there p q l m b c report → (report.heard ≡ 0) × (report.sent ≡ 0)
       → CountsOne report x y → y.fault ≡ None → z ≡ record y { quiet = true }
-      → BurstsBy hears hear_out_of_memory gives next_out_of_memory tells ports transmissions most z i n o q k m a c
+      → BurstsBy hears hear_out_of_memory gives next_out_of_memory tells receives sends filtered marked ports size transmissions most z o q k m a c
   unfolding one_more
-  ends_quietly here count most there i j n o p q k l m a b c x y z report e w few h same ran idle counts f is =
-      let last = taken report j n in
-      subst (λ (it : Batch). BurstsBy hears hear_out_of_memory gives next_out_of_memory tells ports transmissions most it i n o q k m a c) (sym is) (
+  ends_quietly here wide count most there o p q k l m a b c x y z report e v w few h same ran idle counts f is =
+      let last = taken report (filtered p) (filtered q) in
+      subst (λ (it : Batch). BurstsBy hears hear_out_of_memory gives next_out_of_memory tells receives sends filtered marked ports size transmissions most it o q k m a c) (sym is) (
         h.0 ++ last ∷ [],
-        n,
         q,
         m,
         c,
-        one_more hears gives tells ports transmissions here count there i j n o p q k l m a b c x report e w h (omega (arith, same)) ran,
-        nothing_more y.fault n q m c f,
+        one_more hears gives tells receives sends filtered marked ports size transmissions here wide count there o p q k l m a b c x report e v w h (omega (arith, same)) ran,
+        nothing_more y.fault q m c f,
         more_counts h.0 last x y h.3 counts,
         subst (λ (it : Option RunFault). Stops most (h.0 ++ last ∷ []) it true) (sym f)
             (omega (arith, length-append h.0 (last ∷ []), h.1, few), (h.0, last, refl, h.4, (idle.0, idle.1, same))),
       )
 
-  pub ends_badly : (here count most : ℕ) (there : Ways A) (i j n : ℕ) (o p q : Readiness) (k l m : K) (a b c : C) (x y : Batch) (f : RunFault) → here ≡ ports
+  pub ends_badly : (here wide count most : ℕ) (there : Ways A) (o p q : S) (k l m : K) (a b c : C) (x y : Batch) (f : RunFault) → here ≡ ports → wide ≡ size
       → there ≡ transmissions → count < most → x.quiet ≡ false → y ≡ record x { fault = Some f }
-      → Goes hears gives tells ports transmissions count x i j o p k l a b → j ≤ n
-      → BreaksMarkedTurn hears hear_out_of_memory gives next_out_of_memory tells here there p q l m f b c
-      → BurstsBy hears hear_out_of_memory gives next_out_of_memory tells ports transmissions most y i n o q k m a c
-  ends_badly here count most there i j n o p q k l m a b c x y f e w few loud is h le how =
-      subst (λ (it : Batch). BurstsBy hears hear_out_of_memory gives next_out_of_memory tells ports transmissions most it i n o q k m a c) (sym is) (
+      → Goes hears gives tells receives sends filtered marked ports size transmissions count x o p k l a b → filtered p ≤ filtered q
+      → BreaksMarkedTurn hears hear_out_of_memory gives next_out_of_memory tells receives sends marked here wide there f p q l m b c
+      → BurstsBy hears hear_out_of_memory gives next_out_of_memory tells receives sends filtered marked ports size transmissions most y o q k m a c
+  ends_badly here wide count most there o p q k l m a b c x y f e v w few loud is h le how =
+      subst (λ (it : Batch). BurstsBy hears hear_out_of_memory gives next_out_of_memory tells receives sends filtered marked ports size transmissions most it o q k m a c) (sym is) (
         h.0,
-        j,
         p,
         l,
         b,
         h.2,
         (
           le,
-          subst (λ (it : Ways A). BreaksMarkedTurn hears hear_out_of_memory gives next_out_of_memory tells ports it p q l m f b c) w
-              (subst (λ n. BreaksMarkedTurn hears hear_out_of_memory gives next_out_of_memory tells n there p q l m f b c) e how),
+          subst (λ (it : Ways A). BreaksMarkedTurn hears hear_out_of_memory gives next_out_of_memory tells receives sends marked ports size it f p q l m b c) w
+              (subst (λ n. BreaksMarkedTurn hears hear_out_of_memory gives next_out_of_memory tells receives sends marked ports n there f p q l m b c) v
+              (subst (λ n. BreaksMarkedTurn hears hear_out_of_memory gives next_out_of_memory tells receives sends marked n wide there f p q l m b c) e how)),
         ),
         h.3,
         (omega (arith, h.1, few), h.4, loud),

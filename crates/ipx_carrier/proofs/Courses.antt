@@ -74,9 +74,9 @@ module _ {C : Type 0} (hears : C → ℕ → List ℕ → ℕ → C → Type 0)
   pub ran_none : (s : Option (TrafficOf A)) (r : K) (a : C) (report : Report) → report ≡ counted 0 transmissions [] [] → RunsBy hears gives tells ports transmissions 0 s s r r a a report
   ran_none s r a report e = ([], refl, refl, passes_nothing s s refl, refl, e)
 
-  pub ran_one : (now : ℕ) (there : Ways A) (s t u : Option (TrafficOf A)) (r r' : K) (a b c : C) (heard : ℕ) (totals : SendCounts) → tells r now r' → there ≡ transmissions → AsksPorts hears now ports s t a b heard → SendsAll gives now there t u b c totals → RunsBy hears gives tells ports transmissions 1 s u r r' a c (turn_report heard totals)
-  ran_one now there s t u r r' a b c heard totals told is h k' =
-      let k = subst (λ w. SendsAll gives now w t u b c totals) is k' in
+  pub ran_one : {S : Type 0} (sends : S → Given → S → Type 0) (now : ℕ) (there : Ways A) (s t u : Option (TrafficOf A)) (x y : S) (r r' : K) (a b c : C) (heard : ℕ) (totals : SendCounts) → tells r now r' → there ≡ transmissions → AsksPorts hears now ports s t a b heard → SendsAll gives sends now there t u x y b c totals → RunsBy hears gives tells ports transmissions 1 s u r r' a c (turn_report heard totals)
+  ran_one sends now there s t u x y r r' a b c heard totals told is h k' =
+      let k = subst (λ w. SendsAll gives sends now w t u x y b c totals) is k' in
       let turn : Turn = record { moment = now; answers = h.0; packets = k.0 } in
       let passed : Passes s u (h.0 ++ []) (sent_of transmissions k.0) = passes_on s t u h.0 [] [] (sent_of transmissions k.0) h.2 k.2 in (
         turn ∷ [],
@@ -124,9 +124,9 @@ module _ {C : Type 0} (hears hear_out_of_memory : C → ℕ → List ℕ → ℕ
         (r', told, refl),
       )
 
-  pub ends_sending : (now : ℕ) (there : Ways A) (s t u : Option (TrafficOf A)) (r r' : K) (f : RunFault) (a b c : C) (heard : ℕ) → tells r now r' → there ≡ transmissions → AsksPorts hears now ports s t a b heard → SendsSome gives next_out_of_memory 64 now there t u f b c → EndsEarlyBy hears hear_out_of_memory gives next_out_of_memory tells ports transmissions 1 s u r r' f a c
-  ends_sending now there s t u r r' f a b c heard told is h k' =
-      let k = subst (λ w. SendsSome gives next_out_of_memory 64 now w t u f b c) is k' in
+  pub ends_sending : {S : Type 0} (sends : S → Given → S → Type 0) (now : ℕ) (there : Ways A) (s t u : Option (TrafficOf A)) (x y : S) (r r' : K) (f : RunFault) (a b c : C) (heard : ℕ) → tells r now r' → there ≡ transmissions → AsksPorts hears now ports s t a b heard → SendsSome gives next_out_of_memory sends 64 now there t u f x y b c → EndsEarlyBy hears hear_out_of_memory gives next_out_of_memory tells ports transmissions 1 s u r r' f a c
+  ends_sending sends now there s t u x y r r' f a b c heard told is h k' =
+      let k = subst (λ w. SendsSome gives next_out_of_memory sends 64 now w t u f x y b c) is k' in
       let turn : Turn = record { moment = now; answers = h.0; packets = k.0 } in
       let passed : Passes s u (h.0 ++ []) k.1 = passes_on s t u h.0 [] [] k.1 h.2 k.3 in (
         [],

@@ -1,4 +1,5 @@
 pub mod Passing
+pub mod DriverStates
 pub mod Asking
 pub mod Sends
 pub mod Courses

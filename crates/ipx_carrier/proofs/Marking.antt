@@ -9,6 +9,7 @@ use Rattle.ipx_carrier.specs.declared.fault.RunFault.TheVariants.{Device, OutOfM
 use Rattle.ipx_carrier.specs.declared.report.SendCounts.{SendCounts}
 use Rattle.ipx_carrier.specs.Counts.{heard_in}
 use Rattle.ipx_carrier.specs.Device.{Reception, TrafficOf}
+use Rattle.ipx_carrier.specs.DriverTurns.{AsksEach, SendsUntil}
 use Rattle.ipx_carrier.specs.MarkedTurns.{AsksMarkedPorts, AsksSomeMarkedPorts, BreaksMarkedTurn, TakesMarkedTurn}
 use Rattle.ipx_carrier.specs.Parts.{AsksPort, PollFails, SendsAll, SendsSome}
 use Rattle.ipx_carrier.specs.Readiness.{AsksPortWithMark, EndsInNone, FailsWithMark, MarksFollow, MarksStay, Readiness}
@@ -17,6 +18,16 @@ use Rattle.ipx_carrier.specs.Turns.{FailsAtPort, Given, Turn, Ways}
 use Rattle.ipx_carrier.specs.Waits.{answers_of_port}
 use Rattle.ipx_carrier.proofs.Asking.{heard_more, hears_more}
 use Rattle.ipx_carrier.proofs.Courses.{report_one, turn_report}
+use Rattle.ipx_carrier.proofs.DriverStates.{asks_on, asks_one_more}
+
+-- a device that failed is no memory that ran out
+is_memory : RunFault → Type 0
+is_memory Device = ⊥
+is_memory OutOfMemory = Unit {0}
+
+no_memory : ◌≡◌ {A = RunFault} Device OutOfMemory → ⊥
+unfolding is_memory
+no_memory e = subst is_memory (sym e) tt
 
 is_on : Bool → Type 0
 is_on true = Unit {0}
@@ -97,14 +108,15 @@ follow_one asked bytes a b h = λ port. one_at port asked bytes a b h (asked == 
 pub stay_marked : (asked : ℕ) (a b : Readiness) → MarksStay a b → a asked ≡ true → AsksPortWithMark asked true a b
 stay_marked asked a b stay e = (λ port far. stay port, λ k. e, λ k. stay asked ∙ e)
 
-module _ {C : Type 0} (hears : C → ℕ → List ℕ → ℕ → C → Type 0) where
-  pub asks_none : (now : ℕ) (m : Readiness) (c : C) → AsksMarkedPorts hears now 0 m m c c 0
-  asks_none now m c = ([], refl, refl, refl, follow_nothing m m (λ port. refl))
+module _ {C S : Type 0} (hears : C → ℕ → List ℕ → ℕ → C → Type 0)
+    (receives : S → ℕ → ℕ → Option (List ℕ) → S → Type 0) (marked : S → Readiness) (now size : ℕ) where
+  pub asks_none : (x : S) (c : C) → AsksMarkedPorts hears receives marked now size 0 x x c c 0
+  asks_none x c = ([], refl, refl, refl, follow_nothing (marked x) (marked x) (λ port. refl), refl)
 
-  pub asks_more : {A : Type 0} (now port : ℕ) (t u : Option (TrafficOf A)) (l m n : Readiness) (a b c : C) (count more : ℕ) (heard : Bool)
-      → AsksMarkedPorts hears now port l m a b count → AsksPort hears now port t u b c heard → AsksPortWithMark port heard m n
-      → more ≡ count + cond heard 1 0 → AsksMarkedPorts hears now (port + 1) l n a c more
-  asks_more now port t u l m n a b c count more heard h k w e =
+  pub asks_more : {A : Type 0} (wide port : ℕ) (t u : Option (TrafficOf A)) (x y z : S) (a b c : C) (count more : ℕ) (heard : Bool)
+      → wide ≡ size → AsksMarkedPorts hears receives marked now size port x y a b count → AsksPort hears receives now wide port t u y z b c heard → AsksPortWithMark port heard (marked y) (marked z)
+      → more ≡ count + cond heard 1 0 → AsksMarkedPorts hears receives marked now size (port + 1) x z a c more
+  asks_more wide port t u x y z a b c count more heard f h k w e =
       let rs = h.0 in
       let r : List Reception = record { port = port; bytes = k.0 } ∷ [] in
       let is : heard ≡ is_some k.0 = k.3 in
@@ -114,57 +126,80 @@ module _ {C : Type 0} (hears : C → ℕ → List ℕ → ℕ → C → Type 0) 
         omega (arith, length-append rs r),
         hears_more hears now 0 rs a b c k.0 port h.2 (omega arith) k.2,
         e ∙ ap (λ b. count + cond b 1 0) is ∙ ap (λ n. n + cond (is_some k.0) 1 0) counted ∙ sym (heard_more rs port k.0),
-        follow_on rs r l m n h.4 (follow_one port k.0 m n (subst (λ (b : Bool). AsksPortWithMark port b m n) is w)),
+        follow_on rs r (marked x) (marked y) (marked z) h.4
+            (follow_one port k.0 (marked y) (marked z) (subst (λ (b : Bool). AsksPortWithMark port b (marked y) (marked z)) is w)),
+        asks_one_more receives size rs port k.0 x y z h.5 (subst (λ n. receives y port n k.0 z) f k.4),
       )
 
-module _ {C : Type 0} (hears hear_out_of_memory : C → ℕ → List ℕ → ℕ → C → Type 0) where
-  follow_fault : (now port : ℕ) (last : List Reception) (f : RunFault) (m n : Readiness) (b c : C)
+module _ {C S : Type 0} (hears hear_out_of_memory : C → ℕ → List ℕ → ℕ → C → Type 0)
+    (receives : S → ℕ → ℕ → Option (List ℕ) → S → Type 0) (marked : S → Readiness) (now size : ℕ) where
+  follow_fault : (port : ℕ) (last : List Reception) (f : RunFault) (m n : Readiness) (b c : C)
       → FailsAtPort hear_out_of_memory now port last f b c → FailsWithMark port f m n → MarksFollow last m n
-  follow_fault now port last Device m n b c k w = subst (λ (rs : List Reception). MarksFollow rs m n) (sym k.0) (follow_nothing m n w.0)
-  follow_fault now port last OutOfMemory m n b c k w =
+  follow_fault port last Device m n b c k w = subst (λ (rs : List Reception). MarksFollow rs m n) (sym k.0) (follow_nothing m n w.0)
+  follow_fault port last OutOfMemory m n b c k w =
       subst (λ (rs : List Reception). MarksFollow rs m n) (sym k.1) (follow_one port (Some k.0) m n (stay_marked port m n w.0 (w.1 refl)))
 
-  pub asks_some : {A : Type 0} (now port ports : ℕ) (t u : Option (TrafficOf A)) (l m n : Readiness) (a b c : C) (count : ℕ) (f : RunFault)
-      → AsksMarkedPorts hears now port l m a b count → PollFails hears hear_out_of_memory now port t u f b c → FailsWithMark port f m n
-      → port < ports → AsksSomeMarkedPorts hears hear_out_of_memory now ports l n f a c
-  asks_some now port ports t u l m n a b c count f h k w e =
-      let long : length h.0 ≡ port = h.1 in (
+  -- the answers before the fault, and the driver then
+  asks_before : (port : ℕ) (rs last : List Reception) (f : RunFault) (x y z : S) (b c : C) → AsksEach receives size rs x y
+      → FailsAtPort hear_out_of_memory now port last f b c → (f ≡ OutOfMemory → AsksEach receives size last y z)
+      → (asked : S) × AsksEach receives size (rs ++ last) x asked × (f ≡ OutOfMemory → z ≡ asked)
+  asks_before port rs last Device x y z b c h k w =
+      (y, subst (λ (ss : List Reception). AsksEach receives size (rs ++ ss) x y) (sym k.0) (asks_on receives size rs [] x y y h refl), λ e. absurd (no_memory e))
+  asks_before port rs last OutOfMemory x y z b c h k w = (z, asks_on receives size rs last x y z h (w refl), λ e. refl)
+
+  pub asks_some : {A : Type 0} (wide port ports : ℕ) (t u : Option (TrafficOf A)) (x y z : S) (a b c : C) (count : ℕ) (f : RunFault)
+      → wide ≡ size → AsksMarkedPorts hears receives marked now size port x y a b count → PollFails hear_out_of_memory receives now wide port t u f y z b c → FailsWithMark port f (marked y) (marked z)
+      → port < ports → AsksSomeMarkedPorts hears hear_out_of_memory receives marked now size ports f x z a c
+  asks_some wide port ports t u x y z a b c count f same h k w e =
+      let long : length h.0 ≡ port = h.1 in
+      let before = asks_before port h.0 k.0 f x y z b c h.5 k.2 (subst (λ n. f ≡ OutOfMemory → AsksEach receives n k.0 y z) same k.3) in (
         h.0,
         k.0,
         b,
         omega arith,
         h.2,
         subst (λ n. FailsAtPort hear_out_of_memory now n k.0 f b c) (sym long) k.2,
-        follow_on h.0 k.0 l m n h.4 (follow_fault now port k.0 f m n b c k.2 w),
+        follow_on h.0 k.0 (marked x) (marked y) (marked z) h.4 (follow_fault port k.0 f (marked y) (marked z) b c k.2 w),
+        before.0,
+        before.1,
+        before.2,
       )
 
-module _ {C : Type 0} (hears : C → ℕ → List ℕ → ℕ → C → Type 0)
-    (gives : C → ℕ → Option Given → C → Type 0) {K : Type 0} (tells : K → ℕ → K → Type 0)
-    (ports : ℕ) {A : Type 0} (transmissions : Ways A) where
-  pub turn_follows : (now : ℕ) (there : Ways A) (t u : Option (TrafficOf A)) (l m n : Readiness) (r s : K) (a b c : C) (heard : ℕ) (totals : SendCounts)
-      → tells r now s → there ≡ transmissions → AsksMarkedPorts hears now ports l m a b heard → SendsAll gives now there t u b c totals → MarksStay m n
-      → TakesMarkedTurn hears gives tells ports transmissions l n r s a c (turn_report heard totals)
-  turn_follows now there t u l m n r s a b c heard totals told is h k' stay =
-      let k = subst (λ w. SendsAll gives now w t u b c totals) is k' in
+module _ {C K S : Type 0} (hears : C → ℕ → List ℕ → ℕ → C → Type 0)
+    (gives : C → ℕ → Option Given → C → Type 0) (tells : K → ℕ → K → Type 0)
+    (receives : S → ℕ → ℕ → Option (List ℕ) → S → Type 0) (sends : S → Given → S → Type 0)
+    (marked : S → Readiness) (ports size : ℕ) {A : Type 0} (transmissions : Ways A) where
+  pub turn_follows : (now : ℕ) (there : Ways A) (t u : Option (TrafficOf A)) (x y z : S) (r s : K) (a b c : C) (heard : ℕ) (totals : SendCounts)
+      → tells r now s → there ≡ transmissions → AsksMarkedPorts hears receives marked now size ports x y a b heard → SendsAll gives sends now there t u y z b c totals
+      → MarksStay (marked y) (marked z)
+      → TakesMarkedTurn hears gives tells receives sends marked ports size transmissions x z r s a c (turn_report heard totals)
+  turn_follows now there t u x y z r s a b c heard totals told is h k' stay =
+      let k = subst (λ w. SendsAll gives sends now w t u y z b c totals) is k' in
       let turn : Turn = record { moment = now; answers = h.0; packets = k.0 } in
-      (turn, (h.1, b, h.2, k.1), told, report_one transmissions now heard totals h.0 k.0 h.3 k.3, follow_stays h.0 l m n h.4 stay)
+      (turn, (h.1, b, h.2, k.1), told, report_one transmissions now heard totals h.0 k.0 h.3 k.3, follow_stays h.0 (marked x) (marked y) (marked z) h.4 stay, y, h.5, k.4)
 
-module _ {C : Type 0} (hears hear_out_of_memory : C → ℕ → List ℕ → ℕ → C → Type 0)
+module _ {C K S : Type 0} (hears hear_out_of_memory : C → ℕ → List ℕ → ℕ → C → Type 0)
     (gives : C → ℕ → Option Given → C → Type 0) (next_out_of_memory : C → ℕ → C → Type 0)
-    {K : Type 0} (tells : K → ℕ → K → Type 0) (ports : ℕ) {A : Type 0} (transmissions : Ways A) where
-  pub fault_hearing : (now : ℕ) (f : RunFault) (l m : Readiness) (r s : K) (a b : C) → tells r now s → AsksSomeMarkedPorts hears hear_out_of_memory now ports l m f a b
-      → BreaksMarkedTurn hears hear_out_of_memory gives next_out_of_memory tells ports transmissions l m r s f a b
-  fault_hearing now f l m r s a b told h =
-      let turn : Turn = record { moment = now; answers = h.0 ++ h.1; packets = [] } in
-      (turn, [], inl (h.0, h.1, h.2, refl, h.3, h.4, h.5, refl, refl), told, h.6)
+    (tells : K → ℕ → K → Type 0) (receives : S → ℕ → ℕ → Option (List ℕ) → S → Type 0)
+    (sends : S → Given → S → Type 0) (marked : S → Readiness) (ports size : ℕ) {A : Type 0} (transmissions : Ways A) where
+  -- a fault among the ports: nothing was sent
+  nothing_sent : (f : RunFault) (asked z : S) → (f ≡ OutOfMemory → z ≡ asked) → SendsUntil sends [] f asked z
+  nothing_sent Device asked z same = (asked, refl)
+  nothing_sent OutOfMemory asked z same = same refl
 
-  pub fault_sending : (now : ℕ) (there : Ways A) (t u : Option (TrafficOf A)) (l m n : Readiness) (r s : K) (f : RunFault) (a b c : C) (heard : ℕ)
-      → tells r now s → there ≡ transmissions → AsksMarkedPorts hears now ports l m a b heard → SendsSome gives next_out_of_memory 64 now there t u f b c
-      → MarksStay m n → BreaksMarkedTurn hears hear_out_of_memory gives next_out_of_memory tells ports transmissions l n r s f a c
-  fault_sending now there t u l m n r s f a b c heard told is h k' stay =
-      let k = subst (λ w. SendsSome gives next_out_of_memory 64 now w t u f b c) is k' in
+  pub fault_hearing : (now : ℕ) (f : RunFault) (x z : S) (r s : K) (a b : C) → tells r now s → AsksSomeMarkedPorts hears hear_out_of_memory receives marked now size ports f x z a b
+      → BreaksMarkedTurn hears hear_out_of_memory gives next_out_of_memory tells receives sends marked ports size transmissions f x z r s a b
+  fault_hearing now f x z r s a b told h =
+      let turn : Turn = record { moment = now; answers = h.0 ++ h.1; packets = [] } in
+      (turn, [], inl (h.0, h.1, h.2, refl, h.3, h.4, h.5, refl, refl), told, h.6, h.7, h.8, nothing_sent f h.7 z h.9)
+
+  pub fault_sending : (now : ℕ) (there : Ways A) (t u : Option (TrafficOf A)) (x y z : S) (r s : K) (f : RunFault) (a b c : C) (heard : ℕ)
+      → tells r now s → there ≡ transmissions → AsksMarkedPorts hears receives marked now size ports x y a b heard → SendsSome gives next_out_of_memory sends 64 now there t u f y z b c
+      → MarksStay (marked y) (marked z) → BreaksMarkedTurn hears hear_out_of_memory gives next_out_of_memory tells receives sends marked ports size transmissions f x z r s a c
+  fault_sending now there t u x y z r s f a b c heard told is h k' stay =
+      let k = subst (λ w. SendsSome gives next_out_of_memory sends 64 now w t u f y z b c) is k' in
       let turn : Turn = record { moment = now; answers = h.0; packets = k.0 } in
-      (turn, k.1, inr (h.1, b, h.2, k.2), told, follow_stays h.0 l m n h.4 stay)
+      (turn, k.1, inr (h.1, b, h.2, k.2), told, follow_stays h.0 (marked x) (marked y) (marked z) h.4 stay, y, h.5, k.4)
 
 -- one mark of a list is cleared
 cleared_at : (marks : List Bool) (port : ℕ) → is_port_marked (slice_set marks port false) port ≡ false

@@ -12,9 +12,11 @@ use Rattle.ipx_carrier.specs.Device.{Datagram, Passes, Traffic, TrafficOf}
 use Rattle.ipx_carrier.specs.Turns.{FailsAfter, FailsInLast, Given, GivesEach, IsFrontOf, Peers, Ways, by_ip, copies_of, datagram_to, sent_of}
 use Rattle.ipx_carrier.specs.SendingView.{with_one_packet}
 use Rattle.ipx_carrier.specs.Counts.{unmapped_in}
+use Rattle.ipx_carrier.specs.DriverTurns.{SendsEach}
 use Rattle.ipx_carrier.specs.Mapping.{ip_at}
-use Rattle.ipx_carrier.specs.Parts.{SendsAll, SendsEach, SendsNext, SendsSome, totals_of}
+use Rattle.ipx_carrier.specs.Parts.{SendsAll, SendsCounted, SendsNext, SendsSome, totals_of}
 use Rattle.ipx_carrier.specs.PortDrivers.{SendsFrontOf, copies_count}
+use Rattle.ipx_carrier.proofs.DriverStates.{sends_one_more, sends_until}
 use Rattle.ipx_carrier.proofs.Passing.{count-append, passes_nothing, passes_sent}
 
 -- of the copies for all packets, the first ones are those of the first packet
@@ -42,14 +44,14 @@ one_unsent (Err f) peers p to s t single found e =
     rw (single, found) ([], (datagram_to p to, [], refl), passes_nothing s t e)
 
 -- a packet whose datagrams were sent in part
-pub one_sent_in_part : {C A : Type 0} (gives : C → ℕ → Option Given → C → Type 0) (next_out_of_memory : C → ℕ → C → Type 0) (now : ℕ) (transmissions : Ways A) (p : Given) (s t : Option (TrafficOf A)) (a b : C) → gives a now (Some p) b → SendsFrontOf (copies_of transmissions p) s t → SendsSome gives next_out_of_memory 1 now transmissions s t Device a b
-one_sent_in_part gives next_out_of_memory now transmissions p s t a b h k =
-    (p ∷ [], k.0, ((b, h, refl), lit≤ tt, ([], p, k.0, refl, k.1, refl)), k.2)
+pub one_sent_in_part : {C S A : Type 0} (gives : C → ℕ → Option Given → C → Type 0) (next_out_of_memory : C → ℕ → C → Type 0) (sends : S → Given → S → Type 0) (now : ℕ) (transmissions : Ways A) (p : Given) (s t : Option (TrafficOf A)) (x y : S) (a b : C) → gives a now (Some p) b → SendsFrontOf (copies_of transmissions p) s t → SendsSome gives next_out_of_memory sends 1 now transmissions s t Device x y a b
+one_sent_in_part gives next_out_of_memory sends now transmissions p s t x y a b h k =
+    (p ∷ [], k.0, ((b, h, refl), lit≤ tt, ([], p, k.0, refl, k.1, refl)), k.2, (x, refl))
 
 -- a packet for which the core runs out of memory
-pub none_sent : {C A : Type 0} (gives : C → ℕ → Option Given → C → Type 0) (next_out_of_memory : C → ℕ → C → Type 0) (now : ℕ) (transmissions : Ways A) (s t : Option (TrafficOf A)) (a b : C) → next_out_of_memory a now b → t ≡ s → SendsSome gives next_out_of_memory 1 now transmissions s t OutOfMemory a b
-none_sent gives next_out_of_memory now transmissions s t a b h e =
-    ([], [], (a, refl, lit< tt, refl, h), passes_nothing s t e)
+pub none_sent : {C S A : Type 0} (gives : C → ℕ → Option Given → C → Type 0) (next_out_of_memory : C → ℕ → C → Type 0) (sends : S → Given → S → Type 0) (now : ℕ) (transmissions : Ways A) (s t : Option (TrafficOf A)) (x y : S) (a b : C) → next_out_of_memory a now b → t ≡ s → y ≡ x → SendsSome gives next_out_of_memory sends 1 now transmissions s t OutOfMemory x y a b
+none_sent gives next_out_of_memory sends now transmissions s t x y a b h e same =
+    ([], [], (a, refl, lit< tt, refl, h), passes_nothing s t e, same)
 
 pub gives_on : {C : Type 0} (gives : C → ℕ → Option Given → C → Type 0) (now : ℕ) (ps qs : List Given) (a b c : C) → GivesEach gives now ps a b → GivesEach gives now qs b c → GivesEach gives now (ps ++ qs) a c
 gives_on gives now [] qs a b c h k = subst (λ a. GivesEach gives now qs a c) h k
@@ -68,6 +70,15 @@ fails_later {A} transmissions ps qs sent h =
       h.4,
       ap (λ ds. sent_of transmissions ps ++ ds) h.5 ∙ sym (append_assoc (sent_of transmissions ps) (sent_of transmissions before) front) ∙ ap (λ ds. ds ++ front) (sym all),
     )
+
+-- memory that ran out is no failure of a device
+is_device : RunFault → Type 0
+is_device Device = Unit {0}
+is_device OutOfMemory = ⊥
+
+not_device : ◌≡◌ {A = RunFault} OutOfMemory Device → ⊥
+unfolding is_device
+not_device e = subst is_device (sym e) tt
 
 abbrev record_of : ℕ → ℕ → SendCounts
 record_of sent unmapped = record { sent = sent; unmapped = unmapped }
@@ -89,37 +100,45 @@ totals_more transmissions ps p =
     ap (λ n. record_of n (unmapped_in transmissions (ps ++ p ∷ []))) sent ∙ ap (λ n. record_of (length (sent_of transmissions ps) + length (copies_of transmissions p)) n) unmapped
     ∙ count_cases (transmissions p) (length (sent_of transmissions ps)) (unmapped_in transmissions ps)
 
-pub sends_none : {C A : Type 0} (gives : C → ℕ → Option Given → C → Type 0) (now : ℕ) (transmissions : Ways A) (s : Option (TrafficOf A)) (a : C) (t : SendCounts) → t ≡ record_of 0 0 → SendsEach gives 0 now transmissions s s a a t
-sends_none gives now transmissions s a t e = ([], refl, refl, passes_nothing s s refl, e)
+-- a core that gives packets, each of which is sent
+module _ {C S A : Type 0} (gives : C → ℕ → Option Given → C → Type 0) (sends : S → Given → S → Type 0) (now : ℕ) (transmissions : Ways A) where
+  pub sends_none : (s : Option (TrafficOf A)) (x : S) (a : C) (t : SendCounts) → t ≡ record_of 0 0 → SendsCounted gives sends 0 now transmissions s s x x a a t
+  sends_none s x a t e = ([], refl, refl, passes_nothing s s refl, e, refl)
 
-pub sends_more : {C A : Type 0} (gives : C → ℕ → Option Given → C → Type 0) (n now : ℕ) (transmissions : Ways A) (s t u : Option (TrafficOf A)) (a b c : C) (totals next : SendCounts) (o : Option ℕ) → SendsEach gives n now transmissions s t a b totals → SendsNext gives now transmissions t u b c (Some o) → next ≡ with_one_packet totals o → SendsEach gives (n + 1) now transmissions s u a c next
-sends_more {A = A} gives n now transmissions s t u a b c totals next o h k e =
-    let ps = h.0 in
-    let p = k.0 in
-    let sent : Passes s u [] (sent_of transmissions ps ++ copies_of transmissions p) = passes_sent s t u (sent_of transmissions ps) (copies_of transmissions p) h.3 k.2 in (
-      ps ++ p ∷ [],
-      omega (arith, length-append ps (p ∷ []), h.1),
-      gives_on gives now ps (p ∷ []) a b c h.2 (c, k.1, refl),
-      subst (λ (ds : List A). Passes s u [] ds) (sym (sent_of_more transmissions ps p)) sent,
-      e ∙ ap (λ t. with_one_packet t o) h.4 ∙ ap (λ o. with_one_packet (totals_of transmissions ps) o) k.3 ∙ sym (totals_more transmissions ps p),
-    )
+  pub sends_more : (n : ℕ) (s t u : Option (TrafficOf A)) (x y z : S) (a b c : C) (totals next : SendCounts) (o : Option ℕ) → SendsCounted gives sends n now transmissions s t x y a b totals → SendsNext gives sends now transmissions t u y z b c (Some o) → next ≡ with_one_packet totals o → SendsCounted gives sends (n + 1) now transmissions s u x z a c next
+  sends_more n s t u x y z a b c totals next o h k e =
+      let ps = h.0 in
+      let p = k.0 in
+      let sent : Passes s u [] (sent_of transmissions ps ++ copies_of transmissions p) = passes_sent s t u (sent_of transmissions ps) (copies_of transmissions p) h.3 k.2 in (
+        ps ++ p ∷ [],
+        omega (arith, length-append ps (p ∷ []), h.1),
+        gives_on gives now ps (p ∷ []) a b c h.2 (c, k.1, refl),
+        subst (λ (ds : List A). Passes s u [] ds) (sym (sent_of_more transmissions ps p)) sent,
+        e ∙ ap (λ t. with_one_packet t o) h.4 ∙ ap (λ o. with_one_packet (totals_of transmissions ps) o) k.3 ∙ sym (totals_more transmissions ps p),
+        sends_one_more sends ps p x y z h.5 k.4,
+      )
 
--- the same if the transmissions are written in another way
-pub sends_more_there : {C A : Type 0} (gives : C → ℕ → Option Given → C → Type 0) (n now : ℕ) (transmissions there : Ways A) (s t u : Option (TrafficOf A)) (a b c : C) (totals next : SendCounts) (o : Option ℕ) → there ≡ transmissions → SendsEach gives n now transmissions s t a b totals → SendsNext gives now there t u b c (Some o) → next ≡ with_one_packet totals o → SendsEach gives (n + 1) now transmissions s u a c next
-sends_more_there gives n now transmissions there s t u a b c totals next o is h k e =
-    sends_more gives n now transmissions s t u a b c totals next o h (subst (λ w. SendsNext gives now w t u b c (Some o)) is k) e
+  -- the same if the transmissions are written in another way
+  pub sends_more_there : (n : ℕ) (there : Ways A) (s t u : Option (TrafficOf A)) (x y z : S) (a b c : C) (totals next : SendCounts) (o : Option ℕ) → there ≡ transmissions → SendsCounted gives sends n now transmissions s t x y a b totals → SendsNext gives sends now there t u y z b c (Some o) → next ≡ with_one_packet totals o → SendsCounted gives sends (n + 1) now transmissions s u x z a c next
+  sends_more_there n there s t u x y z a b c totals next o is h k e =
+      sends_more n s t u x y z a b c totals next o h (subst (λ w. SendsNext gives sends now w t u y z b c (Some o)) is k) e
 
-pub sends_quiet : {C A : Type 0} (gives : C → ℕ → Option Given → C → Type 0) (n now : ℕ) (transmissions : Ways A) (s t u : Option (TrafficOf A)) (a b c : C) (totals : SendCounts) → SendsEach gives n now transmissions s t a b totals → n < 64 → SendsNext gives now transmissions t u b c None → SendsAll gives now transmissions s u a c totals
-sends_quiet gives n now transmissions s t u a b c totals h lt k =
-    let count : length h.0 ≡ n = h.1 in
-    (h.0, inr (b, h.2, omega arith, k.0), subst (λ u. Passes s u [] (sent_of transmissions h.0)) (sym k.1) h.3, h.4)
+  pub sends_quiet : (n : ℕ) (s t u : Option (TrafficOf A)) (x y z : S) (a b c : C) (totals : SendCounts) → SendsCounted gives sends n now transmissions s t x y a b totals → n < 64 → SendsNext gives sends now transmissions t u y z b c None → SendsAll gives sends now transmissions s u x z a c totals
+  sends_quiet n s t u x y z a b c totals h lt k =
+      let count : length h.0 ≡ n = h.1 in (
+        h.0,
+        inr (b, h.2, omega arith, k.0),
+        subst (λ u. Passes s u [] (sent_of transmissions h.0)) (sym k.1) h.3,
+        h.4,
+        subst (λ z. SendsEach sends h.0 x z) (sym k.2) h.5,
+      )
 
-pub sends_quiet_there : {C A : Type 0} (gives : C → ℕ → Option Given → C → Type 0) (n now : ℕ) (transmissions there : Ways A) (s t u : Option (TrafficOf A)) (a b c : C) (totals : SendCounts) → there ≡ transmissions → SendsEach gives n now transmissions s t a b totals → n < 64 → SendsNext gives now there t u b c None → SendsAll gives now transmissions s u a c totals
-sends_quiet_there gives n now transmissions there s t u a b c totals is h lt k =
-    sends_quiet gives n now transmissions s t u a b c totals h lt (subst (λ w. SendsNext gives now w t u b c None) is k)
+  pub sends_quiet_there : (n : ℕ) (there : Ways A) (s t u : Option (TrafficOf A)) (x y z : S) (a b c : C) (totals : SendCounts) → there ≡ transmissions → SendsCounted gives sends n now transmissions s t x y a b totals → n < 64 → SendsNext gives sends now there t u y z b c None → SendsAll gives sends now transmissions s u x z a c totals
+  sends_quiet_there n there s t u x y z a b c totals is h lt k =
+      sends_quiet n s t u x y z a b c totals h lt (subst (λ w. SendsNext gives sends now w t u y z b c None) is k)
 
-pub sends_full : {C A : Type 0} (gives : C → ℕ → Option Given → C → Type 0) (n now : ℕ) (transmissions : Ways A) (s t : Option (TrafficOf A)) (a b : C) (totals : SendCounts) → SendsEach gives n now transmissions s t a b totals → n ≡ 64 → SendsAll gives now transmissions s t a b totals
-sends_full gives n now transmissions s t a b totals h e = (h.0, inl (h.2, h.1 ∙ e), h.3, h.4)
+  pub sends_full : (n : ℕ) (s t : Option (TrafficOf A)) (x y : S) (a b : C) (totals : SendCounts) → SendsCounted gives sends n now transmissions s t x y a b totals → n ≡ 64 → SendsAll gives sends now transmissions s t x y a b totals
+  sends_full n s t x y a b totals h e = (h.0, inl (h.2, h.1 ∙ e), h.3, h.4, h.5)
 
 fails_on : {C A : Type 0} (gives : C → ℕ → Option Given → C → Type 0) (next_out_of_memory : C → ℕ → C → Type 0) (n most now : ℕ) (transmissions : Ways A) (ps qs : List Given) (sent : List A) (f : RunFault) (a b c : C) → length ps ≡ n → n < most → GivesEach gives now ps a b → FailsAfter gives next_out_of_memory 1 now transmissions qs sent f b c → FailsAfter gives next_out_of_memory most now transmissions (ps ++ qs) (sent_of transmissions ps ++ sent) f a c
 fails_on gives next_out_of_memory n most now transmissions ps qs sent Device a b c first lt h k =
@@ -130,11 +149,25 @@ fails_on gives next_out_of_memory n most now transmissions ps qs sent OutOfMemor
     let none : length qs < 1 = k.2 in
     (k.0, gives_on gives now ps qs a b k.0 h k.1, omega (arith, length-append ps qs), ap (λ ds. sent_of transmissions ps ++ ds) k.3 ∙ sym all, k.4)
 
--- packets that were sent, and then a fault
-pub sends_in_part : {C A : Type 0} (gives : C → ℕ → Option Given → C → Type 0) (next_out_of_memory : C → ℕ → C → Type 0) (n most now : ℕ) (transmissions : Ways A) (s t u : Option (TrafficOf A)) (a b c : C) (totals : SendCounts) (f : RunFault) → SendsEach gives n now transmissions s t a b totals → n < most → SendsSome gives next_out_of_memory 1 now transmissions t u f b c → SendsSome gives next_out_of_memory most now transmissions s u f a c
-sends_in_part gives next_out_of_memory n most now transmissions s t u a b c totals f h lt k =
-    (h.0 ++ k.0, sent_of transmissions h.0 ++ k.1, fails_on gives next_out_of_memory n most now transmissions h.0 k.0 k.1 f a b c h.1 lt h.2 k.2, passes_sent s t u (sent_of transmissions h.0) k.1 h.3 k.3)
+-- a device fails in one packet
+fails_in_one : {C A : Type 0} (gives : C → ℕ → Option Given → C → Type 0) (next_out_of_memory : C → ℕ → C → Type 0) (now : ℕ) (transmissions : Ways A) (qs : List Given) (sent : List A) (f : RunFault) (a b : C) → FailsAfter gives next_out_of_memory 1 now transmissions qs sent f a b → f ≡ Device → length qs ≡ 1
+fails_in_one gives next_out_of_memory now transmissions qs sent Device a b h e =
+    let most : length qs ≤ 1 = h.1 in
+    let is : length qs ≡ length (h.2.0 ++ h.2.1 ∷ []) = ap length h.2.3 in
+    omega (arith, most, is, length-append h.2.0 (h.2.1 ∷ []))
+fails_in_one gives next_out_of_memory now transmissions qs sent OutOfMemory a b h e = absurd (not_device e)
 
-pub sends_in_part_there : {C A : Type 0} (gives : C → ℕ → Option Given → C → Type 0) (next_out_of_memory : C → ℕ → C → Type 0) (n most now : ℕ) (transmissions there : Ways A) (s t u : Option (TrafficOf A)) (a b c : C) (totals : SendCounts) (f : RunFault) → there ≡ transmissions → SendsEach gives n now transmissions s t a b totals → n < most → SendsSome gives next_out_of_memory 1 now there t u f b c → SendsSome gives next_out_of_memory most now transmissions s u f a c
-sends_in_part_there gives next_out_of_memory n most now transmissions there s t u a b c totals f is h lt k =
-    sends_in_part gives next_out_of_memory n most now transmissions s t u a b c totals f h lt (subst (λ w. SendsSome gives next_out_of_memory 1 now w t u f b c) is k)
+-- packets that were sent, and then a fault
+module _ {C S A : Type 0} (gives : C → ℕ → Option Given → C → Type 0) (next_out_of_memory : C → ℕ → C → Type 0) (sends : S → Given → S → Type 0) (now : ℕ) (transmissions : Ways A) where
+  pub sends_in_part : (n most : ℕ) (s t u : Option (TrafficOf A)) (x y z : S) (a b c : C) (totals : SendCounts) (f : RunFault) → SendsCounted gives sends n now transmissions s t x y a b totals → n < most → SendsSome gives next_out_of_memory sends 1 now transmissions t u f y z b c → SendsSome gives next_out_of_memory sends most now transmissions s u f x z a c
+  sends_in_part n most s t u x y z a b c totals f h lt k = (
+    h.0 ++ k.0,
+    sent_of transmissions h.0 ++ k.1,
+    fails_on gives next_out_of_memory n most now transmissions h.0 k.0 k.1 f a b c h.1 lt h.2 k.2,
+    passes_sent s t u (sent_of transmissions h.0) k.1 h.3 k.3,
+    sends_until sends h.0 k.0 f x y z (fails_in_one gives next_out_of_memory now transmissions k.0 k.1 f b c k.2) h.5 k.4,
+  )
+
+  pub sends_in_part_there : (n most : ℕ) (there : Ways A) (s t u : Option (TrafficOf A)) (x y z : S) (a b c : C) (totals : SendCounts) (f : RunFault) → there ≡ transmissions → SendsCounted gives sends n now transmissions s t x y a b totals → n < most → SendsSome gives next_out_of_memory sends 1 now there t u f y z b c → SendsSome gives next_out_of_memory sends most now transmissions s u f x z a c
+  sends_in_part_there n most there s t u x y z a b c totals f is h lt k =
+      sends_in_part n most s t u x y z a b c totals f h lt (subst (λ w. SendsSome gives next_out_of_memory sends 1 now w t u f y z b c) is k)

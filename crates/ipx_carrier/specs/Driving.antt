@@ -85,34 +85,37 @@ Stops most turns (Some f) quiet = (length turns < most) × AreBusy turns × (qui
 Stops most turns None true = (length turns ≤ most) × EndsIdle turns
 Stops most turns None false = (length turns ≡ most) × AreBusy turns
 
-module _ {C : Type 0} (hears : C → ℕ → List ℕ → ℕ → C → Type 0)
-    (gives : C → ℕ → Option Given → C → Type 0) {K : Type 0} (tells : K → ℕ → K → Type 0)
-    (ports : ℕ) where
-  -- consecutive whole turns. The device's count of filtered datagrams goes from the first number to the second,
-  -- and never falls. The marks of its ports follow from what they answer in each turn. What its sockets carried
-  -- is not stated
-  abbrev pub ChainBy : {A : Type 0} → Ways A → List TurnTaken → ℕ → ℕ → Readiness → Readiness → K → K → C → C → Type 0
-  ChainBy transmissions [] filtered filtered_after marked marked_after clock clock_after old new =
-      (filtered_after ≡ filtered) × (marked_after ≡ marked) × (clock_after ≡ clock) × (new ≡ old)
-  ChainBy transmissions (t ∷ ts) filtered filtered_after marked marked_after clock clock_after old new =
-      (tick : K) × (mid : C) × (marks : Readiness) × (t.before ≡ filtered) × (filtered ≤ t.after)
-      × TakesMarkedTurn hears gives tells ports transmissions marked marks clock tick old mid t.report
-      × ChainBy transmissions ts t.after filtered_after marks marked_after tick clock_after mid new
+module _ {C K S : Type 0} (hears : C → ℕ → List ℕ → ℕ → C → Type 0)
+    (gives : C → ℕ → Option Given → C → Type 0) (tells : K → ℕ → K → Type 0)
+    (receives : S → ℕ → ℕ → Option (List ℕ) → S → Type 0) (sends : S → Given → S → Type 0)
+    (filtered : S → ℕ) (marked : S → Readiness) (ports size : ℕ) where
+  -- consecutive whole turns, each from the driver that the turn before left. The driver's count of filtered
+  -- datagrams never falls, and the marks of its ports follow from what they answer in each turn
+  abbrev pub ChainBy : {A : Type 0} → Ways A → List TurnTaken → S → S → K → K → C → C → Type 0
+  ChainBy transmissions [] driver driver_after clock clock_after old new =
+      (driver_after ≡ driver) × (clock_after ≡ clock) × (new ≡ old)
+  ChainBy transmissions (t ∷ ts) driver driver_after clock clock_after old new =
+      (there : S) × (tick : K) × (mid : C)
+      × (t.before ≡ filtered driver) × (t.after ≡ filtered there) × (t.before ≤ t.after)
+      × TakesMarkedTurn hears gives tells receives sends marked ports size transmissions driver there clock tick old mid t.report
+      × ChainBy transmissions ts there driver_after tick clock_after mid new
 
-module _ {C : Type 0} (hears hear_out_of_memory : C → ℕ → List ℕ → ℕ → C → Type 0)
+module _ {C K S : Type 0} (hears hear_out_of_memory : C → ℕ → List ℕ → ℕ → C → Type 0)
     (gives : C → ℕ → Option Given → C → Type 0) (next_out_of_memory : C → ℕ → C → Type 0)
-    {K : Type 0} (tells : K → ℕ → K → Type 0) (ports : ℕ) {A : Type 0} (transmissions : Ways A) where
+    (tells : K → ℕ → K → Type 0) (receives : S → ℕ → ℕ → Option (List ℕ) → S → Type 0)
+    (sends : S → Given → S → Type 0) (filtered : S → ℕ) (marked : S → Readiness) (ports size : ℕ)
+    {A : Type 0} (transmissions : Ways A) where
   -- no fault, and nothing more happens; or a fault ends a turn that had begun
-  abbrev pub EndsBy : Option RunFault → ℕ → ℕ → Readiness → Readiness → K → K → C → C → Type 0
-  EndsBy None filtered filtered_after marked marked_after clock clock_after old new =
-      (filtered_after ≡ filtered) × (marked_after ≡ marked) × (clock_after ≡ clock) × (new ≡ old)
-  EndsBy (Some f) filtered filtered_after marked marked_after clock clock_after old new = (filtered ≤ filtered_after)
-      × BreaksMarkedTurn hears hear_out_of_memory gives next_out_of_memory tells ports transmissions marked marked_after clock clock_after f old new
+  abbrev pub EndsBy : Option RunFault → S → S → K → K → C → C → Type 0
+  EndsBy None driver driver_after clock clock_after old new =
+      (driver_after ≡ driver) × (clock_after ≡ clock) × (new ≡ old)
+  EndsBy (Some f) driver driver_after clock clock_after old new = (filtered driver ≤ filtered driver_after)
+      × BreaksMarkedTurn hears hear_out_of_memory gives next_out_of_memory tells receives sends marked ports size transmissions f driver driver_after clock clock_after old new
 
   -- at most `most` whole turns, which are counted, and then that end
-  abbrev pub BurstsBy : ℕ → Batch → ℕ → ℕ → Readiness → Readiness → K → K → C → C → Type 0
-  BurstsBy most b filtered filtered_after marked marked_after clock clock_after old new = (turns : List TurnTaken)
-      × (filtered_then : ℕ) × (marks : Readiness) × (tick : K) × (mid : C)
-      × ChainBy hears gives tells ports transmissions turns filtered filtered_then marked marks clock tick old mid
-      × EndsBy b.fault filtered_then filtered_after marks marked_after tick clock_after mid new
+  abbrev pub BurstsBy : ℕ → Batch → S → S → K → K → C → C → Type 0
+  BurstsBy most b driver driver_after clock clock_after old new = (turns : List TurnTaken)
+      × (there : S) × (tick : K) × (mid : C)
+      × ChainBy hears gives tells receives sends filtered marked ports size transmissions turns driver there clock tick old mid
+      × EndsBy b.fault there driver_after tick clock_after mid new
       × CountsTurns turns b × Stops most turns b.fault b.quiet

@@ -7,6 +7,7 @@ pub mod Turns
 pub mod GivenPackets
 pub mod PortDrivers
 pub mod Counts
+pub mod DriverTurns
 pub mod Parts
 pub mod SendingView
 pub mod Runs

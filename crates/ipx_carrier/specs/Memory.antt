@@ -4,9 +4,9 @@ use Rattle.std.specs.Global.{Global}
 use Rattle.ipx_carrier.specs.declared.memory.KeptAnswer.{KeptAnswer}
 use Rattle.ipx_carrier.specs.declared.memory.SentDatagram.{SentDatagram}
 use Rattle.ipx_carrier.specs.declared.memory.MemoryDatagrams.{MemoryDatagrams}
-use Rattle.ipx_carrier.specs.Device.{Datagram, Reception, Traffic}
+use Rattle.ipx_carrier.specs.Device.{Datagram, Reception, Traffic, with_more}
 use Rattle.ipx_carrier.specs.Counting.{raised}
-use Rattle.ipx_carrier.specs.Waits.{WaitingDatagrams}
+use Rattle.ipx_carrier.specs.Waits.{LeavesPort, WaitingDatagrams}
 
 abbrev pub memory_sent : SentDatagram → Datagram
 memory_sent d = record { port = d.port; to = d.to; bytes = d.bytes.items }
@@ -55,3 +55,17 @@ FailsAsNamed old failed new = (new.fails_after ≡ named_after old.fails_after)
     × MatchBool (fails_next old.fails_after)
     ((failed ≡ true) × (new.refusals ≡ old.refusals))
     (new.refusals ≡ (if failed then raised old.refusals else old.refusals))
+
+-- a call that did not fail, after which these receptions and datagrams are recorded too
+abbrev pub Records : List Reception → List Datagram → MemoryDatagrams → MemoryDatagrams → Type 0
+Records received sent old new = (traffic_of new ≡ with_more (traffic_of old) received sent)
+    × (new.failures ≡ old.failures) × FailsAsNamed old false new
+
+-- a port was asked, and gave the first datagram that waited there, cut to this size
+abbrev pub MemoryReceives : MemoryDatagrams → ℕ → ℕ → Option (List ℕ) → MemoryDatagrams → Type 0
+MemoryReceives old port size answer new = Records (record { port = port; bytes = answer } ∷ []) [] old new
+    × LeavesPort size port (Some (waiting_of old)) answer (Some (waiting_of new))
+
+-- a datagram was sent, and the same still waits
+abbrev pub MemorySends : MemoryDatagrams → Datagram → MemoryDatagrams → Type 0
+MemorySends old datagram new = Records [] (datagram ∷ []) old new × (waiting_of new ≡ waiting_of old)

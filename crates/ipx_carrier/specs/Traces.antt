@@ -1,5 +1,5 @@
 -- Where a socket is bound, and what it was asked, as its trace says.
-use Rattle.std.specs.Prelude.{◌≡◌, ◌<◌, ◌+◌, ℕ, List, [], ◌∷◌, ◌++◌, Option, Some, None, Result, Ok, Err, IfSome, ℤ, replicate, slice_get, slice_set, take}
+use Rattle.std.specs.Prelude.{◌≡◌, ◌<◌, ◌≤◌, ◌+◌, ℕ, List, [], ◌∷◌, ◌++◌, length, Option, Some, None, Result, Ok, Err, IfSome, ℤ, replicate, slice_get, slice_set, take}
 use Rattle.std.specs.Net.Udp.{udp_raw_fd}
 use Rattle.std.specs.declared.net.socket_addr.SocketAddr.{SocketAddr}
 use Rattle.std.specs.declared.net.socket_addr.SocketAddrV4.{SocketAddrV4}
@@ -53,6 +53,12 @@ AsksOnce port (Ok (Some size)) room old new = IfSome (slice_get old port) (λ s.
     × (new ≡ slice_set old port (received_from s from (take size room))))
 AsksOnce port (Ok None) room old new = IfSome (slice_get old port) (λ s. new ≡ slice_set old port (found_nothing s))
 AsksOnce port (Err _) room old new = IfSome (slice_get old port) (λ s. new ≡ slice_set old port (failed_to_receive 1 s))
+
+-- the socket of this port was asked once, into a room of this size, and gave this; no other changed
+abbrev pub GivesOnce : ℕ → ℕ → Option (List ℕ) → List PlacedSocket → List PlacedSocket → Type 0
+GivesOnce port size (Some bytes) old new = IfSome (slice_get old port) (λ s. (from : SocketAddr)
+    × (new ≡ slice_set old port (received_from s from bytes)) × (length bytes ≤ size))
+GivesOnce port size None old new = IfSome (slice_get old port) (λ s. new ≡ slice_set old port (found_nothing s))
 
 -- what a socket got that was asked again each time the system failed: the size of a datagram and its sender, or
 -- None if nothing waits, or an error if the system failed at each try

@@ -1,7 +1,7 @@
 //! A device that sends and receives datagrams.
 
 ghost use Rattle.std.specs.Prelude.{◌≡◌, ◌<◌, ◌≤◌, ◌+◌, ◌^◌, ℕ, Bool, true, List, [], ◌∷◌, Option, IfOk, OnOk, OnErr, IfSome, is_err, is_some, length};
-ghost use Rattle.ipx_carrier.specs.Device.{Access, Passes, Traffic, received_in};
+ghost use Rattle.ipx_carrier.specs.Device.{Access, Datagram, Passes, Traffic, received_in};
 ghost use Rattle.ipx_carrier.specs.Readiness.{AsksPortWithMark, MarksStay};
 ghost use Rattle.ipx_carrier.specs.RunFaultNumbers.{device_failures};
 ghost use Rattle.ipx_carrier.specs.Waits.{LeavesPort, WaitingDatagrams};
@@ -42,6 +42,12 @@ pub trait Datagrams {
     /// Whether something may wait at each port. A device that keeps no marks says so of each.
     ghost marked: { Self → ℕ → Bool } = { λ s port. true };
 
+    /// How asking a port, into a buffer of this size, may leave the device if it gave this answer.
+    ghost receives: { Self → ℕ → ℕ → Option (List ℕ) → Self → Type 0 };
+
+    /// How sending this datagram may leave the device.
+    ghost sends: { Self → Datagram → Self → Type 0 };
+
     /// How many ports it has.
     fn ports(&self) -> usize
         ensures { result ≡ port_count self.now };
@@ -58,6 +64,8 @@ pub trait Datagrams {
         requires countable { failed self.old + 1 < 2 ^ 64 }
         ensures sent { OnOk result (Passes (traffic self.old) (traffic self.new)
             [] (record { port = port; to = to; bytes = bytes.now } ∷ [])) }
+        ensures sends { OnOk result (sends self.old
+            (record { port = port; to = to; bytes = bytes.now }) self.new) }
         ensures refused { OnErr result (traffic self.new ≡ traffic self.old) }
         ensures waiting { waiting self.new ≡ waiting self.old }
         ensures fails { fails self.old (is_err result) self.new }
@@ -76,6 +84,8 @@ pub trait Datagrams {
         requires countable { failed self.old + 1 < 2 ^ 64 }
         ensures received { IfOk result (λ count. Passes (traffic self.old) (traffic self.new)
             (record { port = port; bytes = received_in room.new count } ∷ []) []) }
+        ensures receives { IfOk result (λ count. receives self.old port (length room.old)
+            (received_in room.new count) self.new) }
         ensures within { IfOk result (λ count. IfSome count (λ n. n ≤ length room.old)) }
         ensures leaves { IfOk result (λ count. LeavesPort (length room.old) port
             (waiting self.old) (received_in room.new count) (waiting self.new)) }

@@ -81,15 +81,15 @@ fn run_once_lent<C: Core, S: PortDriver, K: Clock>(
     ensures access { S.access driver.new ≡ S.access driver.old }
     ensures filtered { S.filtered driver.old ≤ S.filtered driver.new }
     ensures marks { IfOk result (λ report.
-        TakesMarkedTurn C.hears C.gives K.tells (C.port_count core.old) (S.transmissions driver.old)
-        (S.marked driver.old) (S.marked driver.new) clock.old clock.new
+        TakesMarkedTurn C.hears C.gives K.tells S.receives S.sends S.marked (C.port_count core.old)
+        (length room.old) (S.transmissions driver.old) driver.old driver.new clock.old clock.new
         core.old core.new report) }
     ensures marks_fault { CanBeginBy (C.port_count core.old) (S.port_count driver.old)
         (S.failed driver.old) → IfErr result (λ f.
         BreaksMarkedTurn C.hears C.hear_out_of_memory C.gives C.next_out_of_memory K.tells
-        (C.port_count core.old) (S.transmissions driver.old)
-        (S.marked driver.old) (S.marked driver.new) clock.old clock.new
-        f core.old core.new) }
+        S.receives S.sends S.marked (C.port_count core.old) (length room.old)
+        (S.transmissions driver.old) f driver.old driver.new clock.old clock.new
+        core.old core.new) }
     ensures kept { S.kept driver.new ≡ S.kept driver.old }
 {
     if !can_begin_over(core, driver) {
@@ -138,17 +138,18 @@ pub fn run_once_over_ports<C: Core, S: PortDriver, K: Clock>(
     ensures transmissions { S.transmissions driver.new ≡ S.transmissions driver.old }
     ensures access { S.access driver.new ≡ S.access driver.old }
     ensures filtered { S.filtered driver.old ≤ S.filtered driver.new }
-    // What the ports answered in this turn, which the core heard, explains their marks.
+    // What the ports answered in this turn, which the core heard, explains their marks. The driver
+    // gave these answers, and then sent what the core gave.
     ensures marks { IfOk result (λ report.
-        TakesMarkedTurn C.hears C.gives K.tells (C.port_count core.old) (S.transmissions driver.old)
-        (S.marked driver.old) (S.marked driver.new) clock.old clock.new
+        TakesMarkedTurn C.hears C.gives K.tells S.receives S.sends S.marked (C.port_count core.old)
+        1536 (S.transmissions driver.old) driver.old driver.new clock.old clock.new
         core.old core.new report) }
     ensures marks_fault { CanBeginBy (C.port_count core.old) (S.port_count driver.old)
         (S.failed driver.old) → IfErr result (λ f.
         BreaksMarkedTurn C.hears C.hear_out_of_memory C.gives C.next_out_of_memory K.tells
-        (C.port_count core.old) (S.transmissions driver.old)
-        (S.marked driver.old) (S.marked driver.new) clock.old clock.new
-        f core.old core.new) }
+        S.receives S.sends S.marked (C.port_count core.old) 1536
+        (S.transmissions driver.old) f driver.old driver.new clock.old clock.new
+        core.old core.new) }
     ensures kept { S.kept driver.new ≡ S.kept driver.old }
 {
     let mut room = [0; MAX_DATAGRAM];
@@ -169,14 +170,15 @@ pub fn run_batch<C: Core, S: PortDriverFilters, K: Clock>(
     clock: &mut K,
     most: u32,
 ) -> Batch
-    // If turns can begin, the core, the clock and the marks after come of whole turns, which are
-    // counted. If a fault ended a turn, that part of a turn follows them. A port loses its mark only
-    // in a turn in which it answered None, and gains none.
+    // If turns can begin, the core, the clock and the driver after come of whole turns, which are
+    // counted. If a fault ended a turn, that part of a turn follows them. In each turn the driver
+    // gave what the core heard, and sent what the core gave. A port loses its mark only in a turn in
+    // which it answered None, and gains none.
     ensures turns { CanBeginBy (C.port_count core.old) (S.port_count driver.old)
         (S.failed driver.old)
-        → BurstsBy C.hears C.hear_out_of_memory C.gives C.next_out_of_memory K.tells (C.port_count core.old)
-        (S.transmissions driver.old) most result (S.filtered driver.old) (S.filtered driver.new)
-        (S.marked driver.old) (S.marked driver.new) clock.old clock.new core.old core.new }
+        → BurstsBy C.hears C.hear_out_of_memory C.gives C.next_out_of_memory K.tells S.receives S.sends
+        S.filtered S.marked (C.port_count core.old) 1536 (S.transmissions driver.old) most result
+        driver.old driver.new clock.old clock.new core.old core.new }
     // If none can begin, nothing happens.
     ensures refused { (CanBeginBy (C.port_count core.old) (S.port_count driver.old)
         (S.failed driver.old) → ⊥) → (result ≡ refused most)

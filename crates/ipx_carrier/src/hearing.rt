@@ -23,10 +23,10 @@ fn hear_port<C: Core, S: PortDriver>(
     requires core { port < C.port_count core.old }
     requires there { port < S.port_count driver.old }
     requires countable { S.failed driver.old + 1 < 2 ^ 64 }
-    ensures heard { IfOk result (λ heard. AsksPort C.hears now port
-        (S.traffic driver.old) (S.traffic driver.new) core.old core.new heard) }
-    ensures fault { IfErr result (λ f. PollFails C.hears C.hear_out_of_memory now port
-        (S.traffic driver.old) (S.traffic driver.new) f core.old core.new) }
+    ensures heard { IfOk result (λ heard. AsksPort C.hears S.receives now (length room.old) port
+        (S.traffic driver.old) (S.traffic driver.new) driver.old driver.new core.old core.new heard) }
+    ensures fault { IfErr result (λ f. PollFails C.hear_out_of_memory S.receives now (length room.old) port
+        (S.traffic driver.old) (S.traffic driver.new) f driver.old driver.new core.old core.new) }
     ensures waiting { TakesFromDevice (length room.old)
         (S.traffic driver.old) (S.traffic driver.new)
         (S.waiting driver.old) (S.waiting driver.new) }
@@ -74,12 +74,12 @@ pub fn hear_ports<C: Core, S: PortDriver>(
     ensures transmissions { S.transmissions driver.new ≡ S.transmissions driver.old }
     ensures access { S.access driver.new ≡ S.access driver.old }
     ensures filtered { S.filtered driver.old ≤ S.filtered driver.new }
-    // What the core heard explains the marks of the ports.
-    ensures marks { IfOk result (λ count. AsksMarkedPorts C.hears now (C.port_count core.old)
-        (S.marked driver.old) (S.marked driver.new) core.old core.new count) }
+    // What the ports gave explains their marks, and is what the core heard.
+    ensures marks { IfOk result (λ count. AsksMarkedPorts C.hears S.receives S.marked now
+        (length room.old) (C.port_count core.old) driver.old driver.new core.old core.new count) }
     ensures marks_fault { IfErr result (λ f.
-        AsksSomeMarkedPorts C.hears C.hear_out_of_memory now (C.port_count core.old)
-        (S.marked driver.old) (S.marked driver.new) f core.old core.new) }
+        AsksSomeMarkedPorts C.hears C.hear_out_of_memory S.receives S.marked now
+        (length room.old) (C.port_count core.old) f driver.old driver.new core.old core.new) }
     ensures kept { S.kept driver.new ≡ S.kept driver.old }
 {
     let mut heard = 0;

@@ -188,7 +188,7 @@ fn take_waiting(
 
 impl Datagrams for MemoryDatagrams {
     ghost use Rattle.std.specs.Prelude.{Some, length};
-    ghost use Rattle.ipx_carrier.specs.Memory.{FailsAsNamed, traffic_of, waiting_of};
+    ghost use Rattle.ipx_carrier.specs.Memory.{FailsAsNamed, MemoryReceives, MemorySends, traffic_of, waiting_of};
 
     ghost port_count = { λ m. length m.waiting.items };
 
@@ -203,6 +203,10 @@ impl Datagrams for MemoryDatagrams {
     ghost access = { λ d. [] };
 
     ghost filtered = { λ d. 0 };
+
+    ghost receives = { MemoryReceives };
+
+    ghost sends = { MemorySends };
 
     fn ports(&self) -> usize {
         self.waiting.len()

@@ -28,9 +28,10 @@ impl<D: Datagrams + Drop> OwnedRfc1234Ports<D> {
 }
 
 impl<D: Datagrams + Drop> PortDriver for OwnedRfc1234Ports<D> {
-    ghost use Rattle.std.specs.Prelude.{List};
+    ghost use Rattle.std.specs.Prelude.{◌≡◌, List};
     ghost use Rattle.ipx_carrier.specs.Device.{Access, Datagram};
-    ghost use Rattle.ipx_carrier.specs.Turns.{Peers, by_ip, peers_of};
+    ghost use Rattle.ipx_carrier.specs.DriverTurns.{SendsEach};
+    ghost use Rattle.ipx_carrier.specs.Turns.{Peers, by_ip, copies_of, peers_of};
 
     ghost Copy = { Datagram };
 
@@ -54,6 +55,13 @@ impl<D: Datagrams + Drop> PortDriver for OwnedRfc1234Ports<D> {
     ghost filtered = { λ s. D.filtered s.device };
 
     ghost marked = { λ s. D.marked s.device };
+
+    ghost receives = { λ s port size answer t. (t.peers ≡ s.peers)
+        × D.receives s.device port size answer t.device };
+
+    // The device sends each copy, in order.
+    ghost sends = { λ s packet t. (t.peers ≡ s.peers) × SendsEach D.sends
+        (copies_of (by_ip (peers_of s.peers.items)) packet) s.device t.device };
 
     fn ports(&self) -> usize {
         self.device.ports()

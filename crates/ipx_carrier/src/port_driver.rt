@@ -61,6 +61,12 @@ pub trait PortDriver {
     /// Whether something may wait at each port. A driver that keeps no marks says so of each.
     ghost marked: { Self → ℕ → Bool } = { λ s port. true };
 
+    /// How asking a port, into a buffer of this size, may leave the driver if it gave this answer.
+    ghost receives: { Self → ℕ → ℕ → Option (List ℕ) → Self → Type 0 };
+
+    /// How sending this packet may leave the driver, or finding that its node has no address.
+    ghost sends: { Self → Given → Self → Type 0 };
+
     /// How many ports there are.
     fn ports(&self) -> usize
         ensures { result ≡ port_count self.now };
@@ -81,6 +87,8 @@ pub trait PortDriver {
             (record { port = port; node = node; bytes = packet.now }))) }
         ensures count { IfOk result (λ sent. count_in sent ≡ copies_count (transmissions self.old)
             (record { port = port; node = node; bytes = packet.now })) }
+        ensures sends { OnOk result (sends self.old
+            (record { port = port; node = node; bytes = packet.now }) self.new) }
         ensures refused { OnErr result (SendsFrontOf (copies_of (transmissions self.old)
             (record { port = port; node = node; bytes = packet.now }))
             (traffic self.old) (traffic self.new)) }
@@ -102,6 +110,8 @@ pub trait PortDriver {
         requires countable { failed self.old + 1 < 2 ^ 64 }
         ensures received { IfOk result (λ count. Passes (traffic self.old) (traffic self.new)
             (record { port = port; bytes = received_in room.new count } ∷ []) []) }
+        ensures receives { IfOk result (λ count. receives self.old port (length room.old)
+            (received_in room.new count) self.new) }
         ensures within { IfOk result (λ count. IfSome count (λ n. n ≤ length room.old)) }
         ensures leaves { IfOk result (λ count. LeavesPort (length room.old) port
             (waiting self.old) (received_in room.new count) (waiting self.new)) }

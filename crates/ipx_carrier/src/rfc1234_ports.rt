@@ -3,10 +3,11 @@
 
 ghost use Rattle.std.specs.Prelude.{◌≡◌, ◌<◌, ◌≤◌, ◌+◌, ◌^◌, [], OnErr, OnOk, map, slice_get, unwrap_or};
 ghost use Rattle.ipx_carrier.specs.Device.{Passes};
+ghost use Rattle.ipx_carrier.specs.DriverTurns.{SendsEach};
 ghost use Rattle.ipx_carrier.specs.Readiness.{MarksStay};
 ghost use Rattle.ipx_carrier.specs.RunFaultNumbers.{device_failures};
 ghost use Rattle.ipx_carrier.specs.PortDrivers.{SendsFrontOf};
-ghost use Rattle.ipx_carrier.specs.Turns.{by_ip, peers_of};
+ghost use Rattle.ipx_carrier.specs.Turns.{by_ip, copies_of, peers_of};
 
 use crate::datagrams::{CountsFiltered, Datagrams};
 use crate::fault::DeviceFault;
@@ -36,6 +37,9 @@ fn send_to_each<D: Datagrams>(
     requires countable { D.failed datagrams.old + 1 < 2 ^ 64 }
     ensures sent { OnOk result (Passes (D.traffic datagrams.old) (D.traffic datagrams.new) []
         (map (λ to. record { port = port; to = to; bytes = bytes.now }) peers.now)) }
+    ensures sends { OnOk result (SendsEach D.sends
+        (map (λ to. record { port = port; to = to; bytes = bytes.now }) peers.now)
+        datagrams.old datagrams.new) }
     ensures fault { OnErr result (SendsFrontOf
         (map (λ to. record { port = port; to = to; bytes = bytes.now }) peers.now)
         (D.traffic datagrams.old) (D.traffic datagrams.new)) }
@@ -88,6 +92,13 @@ impl<'a, D: Datagrams> PortDriver for Rfc1234Ports<'a, D> {
     ghost filtered = { λ s. D.filtered s.datagrams.now };
 
     ghost marked = { λ s. D.marked s.datagrams.now };
+
+    ghost receives = { λ s port size answer t. (t.peers ≡ s.peers)
+        × D.receives s.datagrams.now port size answer t.datagrams.now };
+
+    // The device sends each copy, in order.
+    ghost sends = { λ s packet t. (t.peers ≡ s.peers) × SendsEach D.sends
+        (copies_of (by_ip (peers_of s.peers.now)) packet) s.datagrams.now t.datagrams.now };
 
     fn ports(&self) -> usize {
         self.datagrams.ports()

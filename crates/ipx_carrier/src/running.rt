@@ -72,14 +72,14 @@ pub fn run_once_in<C: Core, S: PortDriver, K: Clock>(
     ensures access { S.access driver.new ≡ S.access driver.old }
     ensures filtered { S.filtered driver.old ≤ S.filtered driver.new }
     ensures marks { IfOk result (λ report.
-        TakesMarkedTurn C.hears C.gives K.tells (C.port_count core.old) (S.transmissions driver.old)
-        (S.marked driver.old) (S.marked driver.new) clock.old clock.new
+        TakesMarkedTurn C.hears C.gives K.tells S.receives S.sends S.marked (C.port_count core.old)
+        (length room.old) (S.transmissions driver.old) driver.old driver.new clock.old clock.new
         core.old core.new report) }
     ensures marks_fault { IfErr result (λ f.
         BreaksMarkedTurn C.hears C.hear_out_of_memory C.gives C.next_out_of_memory K.tells
-        (C.port_count core.old) (S.transmissions driver.old)
-        (S.marked driver.old) (S.marked driver.new) clock.old clock.new
-        f core.old core.new) }
+        S.receives S.sends S.marked (C.port_count core.old) (length room.old)
+        (S.transmissions driver.old) f driver.old driver.new clock.old clock.new
+        core.old core.new) }
     ensures kept { S.kept driver.new ≡ S.kept driver.old }
 {
     let now = clock.now();

@@ -24,10 +24,12 @@ fn send_next<C: Core, S: PortDriver>(
     requires ports { S.port_count driver.old ≡ C.port_count core.old }
     requires countable { S.failed driver.old + 1 < 2 ^ 64 }
     requires room { 1536 ≤ length room.old }
-    ensures sent { IfOk result (λ sent. SendsNext C.gives now (S.transmissions driver.old)
-        (S.traffic driver.old) (S.traffic driver.new) core.old core.new (copies_view sent)) }
-    ensures fault { IfErr result (λ f. SendsSome C.gives C.next_out_of_memory 1 now (S.transmissions driver.old)
-        (S.traffic driver.old) (S.traffic driver.new) f core.old core.new) }
+    ensures sent { IfOk result (λ sent. SendsNext C.gives S.sends now (S.transmissions driver.old)
+        (S.traffic driver.old) (S.traffic driver.new) driver.old driver.new
+        core.old core.new (copies_view sent)) }
+    ensures fault { IfErr result (λ f. SendsSome C.gives C.next_out_of_memory S.sends 1 now
+        (S.transmissions driver.old) (S.traffic driver.old) (S.traffic driver.new) f
+        driver.old driver.new core.old core.new) }
     ensures waiting { S.waiting driver.new ≡ S.waiting driver.old }
     ensures failures { S.failed driver.new ≡ failures_after result (S.failed driver.old) }
     ensures core_ports { C.port_count core.new ≡ C.port_count core.old }
@@ -76,12 +78,14 @@ pub fn send_all<C: Core, S: PortDriver>(
     requires ports { S.port_count driver.old ≡ C.port_count core.old }
     requires countable { S.failed driver.old + 1 < 2 ^ 64 }
     requires room { 1536 ≤ length room.old }
-    ensures sent { IfOk result (λ totals. SendsAll C.gives now (S.transmissions driver.old)
-        (S.traffic driver.old) (S.traffic driver.new) core.old core.new totals) }
+    ensures sent { IfOk result (λ totals. SendsAll C.gives S.sends now (S.transmissions driver.old)
+        (S.traffic driver.old) (S.traffic driver.new) driver.old driver.new
+        core.old core.new totals) }
     ensures few { IfOk result (λ totals. totals.sent ≤ 64 * 2 ^ 64) }
     ensures few_unmapped { IfOk result (λ totals. totals.unmapped ≤ 64) }
-    ensures fault { IfErr result (λ f. SendsSome C.gives C.next_out_of_memory 64 now (S.transmissions driver.old)
-        (S.traffic driver.old) (S.traffic driver.new) f core.old core.new) }
+    ensures fault { IfErr result (λ f. SendsSome C.gives C.next_out_of_memory S.sends 64 now
+        (S.transmissions driver.old) (S.traffic driver.old) (S.traffic driver.new) f
+        driver.old driver.new core.old core.new) }
     ensures waiting { S.waiting driver.new ≡ S.waiting driver.old }
     ensures failures { S.failed driver.new ≡ failures_after result (S.failed driver.old) }
     ensures core_ports { C.port_count core.new ≡ C.port_count core.old }

@@ -1,7 +1,8 @@
 //! Datagrams over UDP (RFC 1234, Tunneling IPX Traffic through IP Networks).
 
 ghost use Rattle.ipx_carrier.specs.RunFaultNumbers.{device_failures};
-ghost use Rattle.ipx_carrier.specs.Traces.{AsksOnce, RefusesTo, SendsTo, v4_at};
+ghost use Rattle.ipx_carrier.specs.Device.{received_in};
+ghost use Rattle.ipx_carrier.specs.Traces.{AsksOnce, GivesOnce, RefusesTo, SendsTo, v4_at};
 ghost use Rattle.std.specs.Prelude.{◌≡◌, ◌<◌, ◌≤◌, ◌+◌, ◌^◌, IfOk, IfSome, OnErr, OnOk, length, map};
 
 use crate::datagrams::Datagrams;
@@ -62,7 +63,8 @@ impl UdpDatagrams {
 }
 
 impl Datagrams for UdpDatagrams {
-    ghost use Rattle.std.specs.Prelude.{None, [], length};
+    ghost use Rattle.std.specs.Prelude.{None, [], length, ◌≡◌};
+    ghost use Rattle.ipx_carrier.specs.Traces.{GivesOnce, SendsTo, v4_at};
 
     ghost port_count = { λ d. length d.sockets.items };
 
@@ -77,6 +79,14 @@ impl Datagrams for UdpDatagrams {
     ghost access = { λ d. [] };
 
     ghost filtered = { λ d. 0 };
+
+    // Each call is one event of the socket of its port.
+    ghost receives = { λ d port size answer e. (e.port ≡ d.port) × (e.failures ≡ d.failures)
+        × GivesOnce port size answer d.sockets.items e.sockets.items };
+
+    ghost sends = { λ d datagram e. (e.port ≡ d.port) × (e.failures ≡ d.failures)
+        × SendsTo datagram.port (v4_at datagram.to d.port) datagram.bytes
+        d.sockets.items e.sockets.items };
 
     fn ports(&self) -> usize {
         self.sockets.len()
@@ -95,6 +105,7 @@ impl Datagrams for UdpDatagrams {
             self.old.sockets.items self.new.sockets.items) }
         ensures failures { self.new.failures ≡ device_failures result self.old.failures }
         ensures ports { length self.new.sockets.items ≡ length self.old.sockets.items }
+        ensures port { self.new.port ≡ self.old.port }
     {
         let to = socket_addr(to, self.port);
         if self.sockets[port].send_to(to, bytes).is_err() {
@@ -109,9 +120,12 @@ impl Datagrams for UdpDatagrams {
         requires countable { self.old.failures + 1 < 2 ^ 64 }
         // The port's socket was asked once, and this came of it.
         ensures asks { AsksOnce port result room.new self.old.sockets.items self.new.sockets.items }
+        ensures gives { IfOk result (λ count. GivesOnce port (length room.old)
+            (received_in room.new count) self.old.sockets.items self.new.sockets.items) }
         ensures within { IfOk result (λ count. IfSome count (λ n. n ≤ length room.old)) }
         ensures failures { self.new.failures ≡ device_failures result self.old.failures }
         ensures ports { length self.new.sockets.items ≡ length self.old.sockets.items }
+        ensures port { self.new.port ≡ self.old.port }
     {
         match self.sockets[port].receive(room) {
             Ok(came) => Ok(came.map(|(count, _)| count)),

@@ -174,6 +174,10 @@ impl<D: EndSockets + Drop> PortDriver for EthernetPorts<D> {
 
     ghost marked = { λ w. D.marked w.sockets };
 
+    ghost receives = { λ s port size answer t. Unit {0} };
+
+    ghost sends = { λ s packet t. Unit {0} };
+
     fn ports(&self) -> usize {
         self.switches.len().min(self.sockets.ports())
     }

@@ -252,6 +252,10 @@ impl<D: PlaceSockets + Drop> PortDriver for Servers<D> {
 
     ghost marked = { λ l. D.marked l.sockets };
 
+    ghost receives = { λ s port size answer t. Unit {0} };
+
+    ghost sends = { λ s packet t. Unit {0} };
+
     fn ports(&self) -> usize {
         self.servers.len().min(self.sockets.ports())
     }

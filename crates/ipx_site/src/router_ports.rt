@@ -196,6 +196,10 @@ impl<D: Datagrams + Drop, E: EndSockets + Drop, L: PlaceSockets + Drop> PortDriv
     ghost marked = { λ r. marked_by_kind (D.marked r.datagrams.device)
         (E.marked r.ethernet.sockets) (L.marked r.servers.sockets) r.port_indices.items };
 
+    ghost receives = { λ s port size answer t. Unit {0} };
+
+    ghost sends = { λ s packet t. Unit {0} };
+
     fn ports(&self) -> usize {
         self.port_indices.len()
     }

@@ -71,6 +71,10 @@ impl Datagrams for Post {
 
     ghost filtered = { λ d. 0 };
 
+    ghost receives = { λ d port size answer e. Unit {0} };
+
+    ghost sends = { λ d datagram e. Unit {0} };
+
     fn ports(&self) -> usize {
         self.ports
     }

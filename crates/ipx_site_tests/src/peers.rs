@@ -33,6 +33,10 @@ impl Datagrams for Fountain {
 
     ghost filtered = { λ d. 0 };
 
+    ghost receives = { λ d port size answer e. Unit {0} };
+
+    ghost sends = { λ d datagram e. Unit {0} };
+
     fn ports(&self) -> usize {
         1
     }

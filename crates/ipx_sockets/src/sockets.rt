@@ -241,6 +241,10 @@ impl Datagrams for UdpSockets {
 
     ghost marked = { λ d. is_port_marked d.marks };
 
+    ghost receives = { λ s port size answer t. Unit {0} };
+
+    ghost sends = { λ s packet t. Unit {0} };
+
     fn ports(&self) -> usize {
         self.sockets.len()
     }

@@ -302,6 +302,10 @@ impl<D: Senders + Drop> Datagrams for SourceFilter<D> {
 
     ghost marked = { λ p. D.marked p.device };
 
+    ghost receives = { λ s port size answer t. Unit {0} };
+
+    ghost sends = { λ s packet t. Unit {0} };
+
     fn ports(&self) -> usize {
         self.device.ports()
     }

@@ -1,4 +1,4 @@
-use Rattle.std.proofs.Common.{◌∙◌, arith, ap, sym}
+use Rattle.std.proofs.Common.{◌∙◌, ◌≡◌, arith, ap, sym, length}
 use Rattle.ipx_carrier.specs.declared.fault.RunFault.TheVariants.{Device}
 use Rattle.ipx_carrier.proofs.Bursting.{begins_again, ends_badly, ends_quietly, goes_on, is_busy_so, no_fault, refused_first, refused_none, same_fault}
 use Rattle.ipx_carrier.proofs.driving.run_batch.Goals.{else-is_idle-via-then-is_idle+else-filtered-kept, else-is_idle-via-else-is_idle}
@@ -10,7 +10,8 @@ returns-in-Err-clause-turns g c =
     let l = c.loop-turn in
     let i = l.invariant in
     let again = begins_again i.ports i.driver_ports (i.failures can) can in
-    ends_badly g.C.Core.hears g.C.Core.hear_out_of_memory g.C.Core.gives g.C.Core.next_out_of_memory g.K.Clock.tells (g.C.Core.port_count c.args.core.now) (g.S.PortDriver.transmissions c.args.driver.now) (g.C.Core.port_count l.core) l._turn c.args.most (g.S.PortDriver.transmissions l.driver) (g.S.PortDriver.filtered c.args.driver.now) (g.S.PortDriver.filtered l.driver) (g.S.PortDriver.filtered c.run_once_lent.new.driver) (g.S.PortDriver.marked c.args.driver.now) (g.S.PortDriver.marked l.driver) (g.S.PortDriver.marked c.run_once_lent.new.driver) c.args.clock.now l.clock c.run_once_lent.new.clock c.args.core.now l.core c.run_once_lent.new.core l.batch c.ended_by.result c.in-Err.fault i.ports i.transmissions (omega (arith, c.loop-turn-test.true)) i.loud c.ended_by.ensures (i.goes can) c.in-Err.ensures.filtered (c.in-Err.ensures.marks_fault again)
+    let wide : length l.room ≡ 1536 = omega arith in
+    ends_badly g.C.Core.hears g.C.Core.hear_out_of_memory g.C.Core.gives g.C.Core.next_out_of_memory g.K.Clock.tells g.S.PortDriver.receives g.S.PortDriver.sends g.S.PortDriver.filtered g.S.PortDriver.marked (g.C.Core.port_count c.args.core.now) 1536 (g.S.PortDriver.transmissions c.args.driver.now) (g.C.Core.port_count l.core) (length l.room) l._turn c.args.most (g.S.PortDriver.transmissions l.driver) c.args.driver.now l.driver c.run_once_lent.new.driver c.args.clock.now l.clock c.run_once_lent.new.clock c.args.core.now l.core c.run_once_lent.new.core l.batch c.ended_by.result c.in-Err.fault i.ports wide i.transmissions (omega (arith, c.loop-turn-test.true)) i.loud c.ended_by.ensures (i.goes can) c.in-Err.ensures.filtered (c.in-Err.ensures.marks_fault again)
 
 pub returns-in-Err-clause-refused : goal.returns-in-Err-clause-refused
 returns-in-Err-clause-refused g c =
@@ -33,7 +34,8 @@ returns-then-filtered-kept-clause-turns g c =
     let i = l.invariant in
     let report = c.in-Ok.report in
     let counted = c.with-batch.ensures in
-    ends_quietly g.C.Core.hears g.C.Core.hear_out_of_memory g.C.Core.gives g.C.Core.next_out_of_memory g.K.Clock.tells (g.C.Core.port_count c.args.core.now) (g.S.PortDriver.transmissions c.args.driver.now) (g.C.Core.port_count l.core) l._turn c.args.most (g.S.PortDriver.transmissions l.driver) (g.S.PortDriver.filtered c.args.driver.now) (g.S.PortDriver.filtered l.driver) (g.S.PortDriver.filtered c.run_once_lent.new.driver) (g.S.PortDriver.marked c.args.driver.now) (g.S.PortDriver.marked l.driver) (g.S.PortDriver.marked c.run_once_lent.new.driver) c.args.clock.now l.clock c.run_once_lent.new.clock c.args.core.now l.core c.run_once_lent.new.core l.batch c.with-batch.result c.quieted.result report i.ports i.transmissions (omega (arith, c.loop-turn-test.true)) (i.goes can) (sym c.filtered.ensures ∙ c.if-filtered-kept.true ∙ c.filtered-kept.ensures) c.in-Ok.ensures.marks (c.is_idle.ensures.0 c.if-is_idle.true) (counted.heard, counted.sent, counted.unmapped) (counted.rest.0 ∙ i.whole) c.quieted.ensures
+    let wide : length l.room ≡ 1536 = omega arith in
+    ends_quietly g.C.Core.hears g.C.Core.hear_out_of_memory g.C.Core.gives g.C.Core.next_out_of_memory g.K.Clock.tells g.S.PortDriver.receives g.S.PortDriver.sends g.S.PortDriver.filtered g.S.PortDriver.marked (g.C.Core.port_count c.args.core.now) 1536 (g.S.PortDriver.transmissions c.args.driver.now) (g.C.Core.port_count l.core) (length l.room) l._turn c.args.most (g.S.PortDriver.transmissions l.driver) c.args.driver.now l.driver c.run_once_lent.new.driver c.args.clock.now l.clock c.run_once_lent.new.clock c.args.core.now l.core c.run_once_lent.new.core l.batch c.with-batch.result c.quieted.result report i.ports wide i.transmissions (omega (arith, c.loop-turn-test.true)) (i.goes can) (sym c.filtered.ensures ∙ c.if-filtered-kept.true ∙ c.filtered-kept.ensures) c.in-Ok.ensures.marks (c.is_idle.ensures.0 c.if-is_idle.true) (counted.heard, counted.sent, counted.unmapped) (counted.rest.0 ∙ i.whole) c.quieted.ensures
 
 pub loop-turn-preserved : goal.loop-turn-preserved
 loop-turn-preserved g c =
@@ -41,9 +43,10 @@ loop-turn-preserved g c =
     let i = l.invariant in
     let report = c.in-Ok.report in
     let counted = c.with-batch.ensures in
+    let wide : length l.room ≡ 1536 = omega arith in
     record {
       failures = λ can. c.in-Ok.ensures.failures (begins_again i.ports i.driver_ports (i.failures can) can) ∙ i.failures can;
-      goes = λ can. goes_on g.C.Core.hears g.C.Core.gives g.K.Clock.tells (g.C.Core.port_count c.args.core.now) (g.S.PortDriver.transmissions c.args.driver.now) (g.C.Core.port_count l.core) l._turn (g.S.PortDriver.transmissions l.driver) (g.S.PortDriver.filtered c.args.driver.now) (g.S.PortDriver.filtered l.driver) (g.S.PortDriver.filtered c.run_once_lent.new.driver) (g.S.PortDriver.marked c.args.driver.now) (g.S.PortDriver.marked l.driver) (g.S.PortDriver.marked c.run_once_lent.new.driver) c.args.clock.now l.clock c.run_once_lent.new.clock c.args.core.now l.core c.run_once_lent.new.core l.batch c.with-batch.result report i.ports i.transmissions (i.goes can) c.in-Ok.ensures.filtered c.in-Ok.ensures.marks (counted.heard, counted.sent, counted.unmapped)
+      goes = λ can. goes_on g.C.Core.hears g.C.Core.gives g.K.Clock.tells g.S.PortDriver.receives g.S.PortDriver.sends g.S.PortDriver.filtered g.S.PortDriver.marked (g.C.Core.port_count c.args.core.now) 1536 (g.S.PortDriver.transmissions c.args.driver.now) (g.C.Core.port_count l.core) (length l.room) l._turn (g.S.PortDriver.transmissions l.driver) c.args.driver.now l.driver c.run_once_lent.new.driver c.args.clock.now l.clock c.run_once_lent.new.clock c.args.core.now l.core c.run_once_lent.new.core l.batch c.with-batch.result report i.ports wide i.transmissions (i.goes can) c.in-Ok.ensures.filtered c.in-Ok.ensures.marks (counted.heard, counted.sent, counted.unmapped)
           (λ idle. elim c.else-is_idle.branch [ else-is_idle-via-then-is_idle+else-filtered-kept w ↦ w.if-filtered-kept.false (w.filtered.ensures ∙ idle.2 ∙ sym c.filtered-kept.ensures) | else-is_idle-via-else-is_idle w ↦ is_busy_so c.is_idle.result report c.is_idle.ensures w.if-is_idle.false (idle.0, idle.1) ]);
       nothing = λ cannot.
           let still = i.nothing cannot in

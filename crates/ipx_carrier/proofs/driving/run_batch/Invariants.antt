@@ -8,7 +8,7 @@ invariant-loop-turn g l =
     let begun = CanBeginBy (g.C.Core.port_count l.fn.core) (g.S.PortDriver.port_count l.fn.driver) (g.S.PortDriver.failed l.fn.driver) in
     record {
       failures : begun → g.S.PortDriver.failed l.driver ≡ g.S.PortDriver.failed l.fn.driver;
-      goes : begun → Goes g.C.Core.hears g.C.Core.gives g.K.Clock.tells (g.C.Core.port_count l.fn.core) (g.S.PortDriver.transmissions l.fn.driver) l._turn l.batch (g.S.PortDriver.filtered l.fn.driver) (g.S.PortDriver.filtered l.driver) (g.S.PortDriver.marked l.fn.driver) (g.S.PortDriver.marked l.driver) l.fn.clock l.clock l.fn.core l.core;
+      goes : begun → Goes g.C.Core.hears g.C.Core.gives g.K.Clock.tells g.S.PortDriver.receives g.S.PortDriver.sends g.S.PortDriver.filtered g.S.PortDriver.marked (g.C.Core.port_count l.fn.core) 1536 (g.S.PortDriver.transmissions l.fn.driver) l._turn l.batch l.fn.driver l.driver l.fn.clock l.clock l.fn.core l.core;
       nothing : (begun → ⊥) → (l._turn ≡ 0) × (l.batch ≡ no_turns) × (l.core ≡ l.fn.core) × (l.driver ≡ l.fn.driver) × (l.clock ≡ l.fn.clock);
       whole : l.batch.fault ≡ None;
       loud : l.batch.quiet ≡ false;

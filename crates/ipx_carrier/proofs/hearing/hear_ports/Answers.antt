@@ -1,4 +1,4 @@
-use Rattle.std.proofs.Common.{rules, refl, lit≤, ◌≡◌, ◌≤◌, ◌+◌, cond, arith}
+use Rattle.std.proofs.Common.{rules, refl, lit≤, ◌≡◌, ◌≤◌, ◌+◌, cond, arith, length}
 use Rattle.std.proofs.lemmas.Result.{err_from_is_err_and}
 use Rattle.ipx_carrier.proofs.Asking.{asked_more, asked_none, asked_some}
 use Rattle.ipx_carrier.proofs.Draining.{takes_more, takes_nothing}
@@ -10,13 +10,13 @@ pub returns-in_err-hear_port-clause-fault : goal.returns-in_err-hear_port-clause
 returns-in_err-hear_port-clause-fault g c =
     let p = err_from_is_err_and c.from_residual.result c.from_residual.ensures.1 in
     rw (p.1, p.2)
-    (asked_some g.C.Core.hears g.C.Core.hear_out_of_memory c.args.now c.loop-port.port _ _ _ _ _ _ _ c.loop-port.heard _ c.loop-port.invariant.asked c.in_err-hear_port.ensures.fault (omega arith))
+    (asked_some g.C.Core.hears g.C.Core.hear_out_of_memory g.S.PortDriver.receives c.args.now _ c.loop-port.port _ _ _ _ _ _ _ _ _ c.loop-port.heard _ c.loop-port.invariant.asked c.in_err-hear_port.ensures.fault (omega arith))
 
 pub returns-in_err-hear_port-clause-marks_fault : goal.returns-in_err-hear_port-clause-marks_fault
 returns-in_err-hear_port-clause-marks_fault g c =
     let p = err_from_is_err_and c.from_residual.result c.from_residual.ensures.1 in
     rw (p.1, p.2)
-    (asks_some g.C.Core.hears g.C.Core.hear_out_of_memory c.args.now c.loop-port.port _ _ _ _ _ _ _ _ _ c.loop-port.heard _ c.loop-port.invariant.marks c.in_err-hear_port.ensures.fault c.in_err-hear_port.ensures.marks_stay (omega arith))
+    (asks_some g.C.Core.hears g.C.Core.hear_out_of_memory g.S.PortDriver.receives g.S.PortDriver.marked c.args.now (length c.args.room.now) _ c.loop-port.port _ _ _ _ _ _ _ _ _ c.loop-port.heard _ c.loop-port.invariant.room c.loop-port.invariant.marks c.in_err-hear_port.ensures.fault c.in_err-hear_port.ensures.marks_stay (omega arith))
 
 pub returns-in_err-hear_port-clause-waiting : goal.returns-in_err-hear_port-clause-waiting
 returns-in_err-hear_port-clause-waiting g c =
@@ -34,7 +34,7 @@ loop-port-init g c = record {
   transmissions = refl;
   access = refl;
   filtered = omega arith;
-  marks = asks_none g.C.Core.hears c.args.now (g.S.PortDriver.marked c.args.driver.now) c.args.core.now;
+  marks = asks_none g.C.Core.hears g.S.PortDriver.receives g.S.PortDriver.marked c.args.now (length c.args.room.now) c.args.driver.now c.args.core.now;
   kept = refl;
 }
 
@@ -45,7 +45,7 @@ loop-port-preserved g c =
     let few : c.if-branch.heard ≤ c.loop-port.port + 1 =
     elim c.if-branch.branch [ then-branch w ↦ omega (arith, w.heard-is, c.loop-port.invariant.few) | else-branch w ↦ omega (arith, w.heard-is, c.loop-port.invariant.few) ] in
     record {
-      asked = asked_more g.C.Core.hears c.args.now c.loop-port.port _ _ _ _ _ _ c.loop-port.heard c.if-branch.heard c.in_ok-hear_port.field-0 c.loop-port.invariant.asked c.in_ok-hear_port.ensures.heard grows;
+      asked = asked_more g.C.Core.hears g.S.PortDriver.receives c.args.now _ c.loop-port.port _ _ _ _ _ _ _ _ c.loop-port.heard c.if-branch.heard c.in_ok-hear_port.field-0 c.loop-port.invariant.asked c.in_ok-hear_port.ensures.heard grows;
       few = few;
       room = search rules;
       waiting = takes_more _ _ _ _ _ _ _ _ c.loop-port.invariant.room c.loop-port.invariant.waiting c.in_ok-hear_port.ensures.waiting;
@@ -55,6 +55,6 @@ loop-port-preserved g c =
       transmissions = search rules;
       access = search rules;
       filtered = omega arith;
-      marks = asks_more g.C.Core.hears c.args.now c.loop-port.port _ _ _ _ _ _ _ _ c.loop-port.heard c.if-branch.heard c.in_ok-hear_port.field-0 c.loop-port.invariant.marks c.in_ok-hear_port.ensures.heard c.in_ok-hear_port.ensures.marks grows;
+      marks = asks_more g.C.Core.hears g.S.PortDriver.receives g.S.PortDriver.marked c.args.now (length c.args.room.now) _ c.loop-port.port _ _ _ _ _ _ _ _ c.loop-port.heard c.if-branch.heard c.in_ok-hear_port.field-0 c.loop-port.invariant.room c.loop-port.invariant.marks c.in_ok-hear_port.ensures.heard c.in_ok-hear_port.ensures.marks grows;
       kept = search rules;
     }

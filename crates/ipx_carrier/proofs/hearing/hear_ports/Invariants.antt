@@ -15,6 +15,6 @@ invariant-loop-port g l = record {
   transmissions : g.S.PortDriver.transmissions l.driver ≡ g.S.PortDriver.transmissions l.fn.driver;
   access : g.S.PortDriver.access l.driver ≡ g.S.PortDriver.access l.fn.driver;
   filtered : g.S.PortDriver.filtered l.fn.driver ≤ g.S.PortDriver.filtered l.driver;
-  marks : AsksMarkedPorts g.C.Core.hears l.now l.port (g.S.PortDriver.marked l.fn.driver) (g.S.PortDriver.marked l.driver) l.fn.core l.core l.heard;
+  marks : AsksMarkedPorts g.C.Core.hears g.S.PortDriver.receives g.S.PortDriver.marked l.now (length l.fn.room) l.port l.fn.driver l.driver l.fn.core l.core l.heard;
   kept : g.S.PortDriver.kept l.driver ≡ g.S.PortDriver.kept l.fn.driver;
 }

@@ -1,11 +1,11 @@
 use Rattle.std.proofs.Common.{◌≡◌, ◌≤◌, ◌*◌, ◌^◌}
 use Rattle.ipx_carrier.specs.Readiness.{MarksStay}
-use Rattle.ipx_carrier.specs.Parts.{SendsEach}
+use Rattle.ipx_carrier.specs.Parts.{SendsCounted}
 use Rattle.ipx_carrier.proofs.sending.send_all.Given as goal
 
 abbrev pub invariant-loop-asked : goal.invariant-loop-asked
 invariant-loop-asked g l = record {
-  sent : SendsEach g.C.Core.gives l._asked l.now (g.S.PortDriver.transmissions l.fn.driver) (g.S.PortDriver.traffic l.fn.driver) (g.S.PortDriver.traffic l.driver) l.fn.core l.core l.totals;
+  sent : SendsCounted g.C.Core.gives g.S.PortDriver.sends l._asked l.now (g.S.PortDriver.transmissions l.fn.driver) (g.S.PortDriver.traffic l.fn.driver) (g.S.PortDriver.traffic l.driver) l.fn.driver l.driver l.fn.core l.core l.totals;
   few : l.totals.sent ≤ l._asked * 2 ^ 64;
   few_unmapped : l.totals.unmapped ≤ l._asked;
   waiting : g.S.PortDriver.waiting l.driver ≡ g.S.PortDriver.waiting l.fn.driver;

@@ -1,4 +1,4 @@
-use Rattle.std.proofs.Common.{Some, ap, map}
+use Rattle.std.proofs.Common.{Some, ap, map, refl, rules}
 use Rattle.ipx_carrier.proofs.Waiting.{leaves_port, waits_still}
 use Rattle.ipx_carrier.proofs.memory.MemoryDatagramsDatagrams.receive.Goals as goal
 
@@ -9,3 +9,9 @@ returns-in_default-clause-waiting c =
 pub returns-clause-leaves : goal.returns-clause-leaves
 returns-clause-leaves c =
     leaves_port c.args.self.now.waiting.items (λ q. map (λ v. v.items) q.items) c.args.port c.index_mut-waiting.result.now c.take_waiting.new.waiting _ _ c.requires.there c.index_mut-waiting.ensures.value c.in-Ok.ensures.first c.in-Ok.ensures.left
+
+pub returns-clause-receives : goal.returns-clause-receives
+returns-clause-receives c = (
+  (search rules, refl, (search rules, search rules)),
+  leaves_port c.args.self.now.waiting.items (λ q. map (λ v. v.items) q.items) c.args.port c.index_mut-waiting.result.now c.take_waiting.new.waiting _ _ c.requires.there c.index_mut-waiting.ensures.value c.in-Ok.ensures.first c.in-Ok.ensures.left,
+)
