@@ -21,7 +21,7 @@ use Rattle.ipxnet_server.specs.PeerServers.{is_joined_place}
 use Rattle.ipxnet_server.specs.Restarts.{server_noting_again}
 use Rattle.ipxnet_server.specs.ServerClients.{client_at, node_of_place}
 use Rattle.ipxnet_server.specs.ServerFloods.{packet_gives, server_giving, server_limiting, server_unlimited, unlimited_hears}
-use Rattle.ipxnet_server.specs.ServerHears.{ServerView, joined_server, makes_client, server_admitting, server_aged, server_hearing, server_hears, server_learned, server_met}
+use Rattle.ipxnet_server.specs.ServerHears.{ServerView, attempts_noted, joined_server, makes_client, server_admitting, server_aged, server_hearing, server_hears, server_learned, server_met}
 use Rattle.ipxnet_server.specs.ServerRuns.{Again, Datagram, NoPacket, OfCore, ServerCall, Turn, WhoStaysNotedIsAsked, call_asks, run_asks, server_after, server_run, stays_noted, time_of}
 use Rattle.ipxnet_server.proofs.Hears.{makes_new}
 use Rattle.ipxnet_server.proofs.Limits.{ReadsNoToken, giving_keeps, limiting_keeps}
@@ -113,7 +113,7 @@ module _ (P : Noted → Type 0) where
 
   -- an address that registers is noted anew only if no client is known there, and it is not noted
   all_noting : (b : Bool) (from : SocketAddrV4) (now : ℕ) (l : ServerView) → is_some (client_at from l.clients) ≡ b → (is_some (client_at from l.clients) ≡ false → is_noted from l.noted ≡ false → P (record { place = from; since = now; cause = Registration })) → All P l.noted
-      → All P (if b then l else record l { noted = places_noted from now l.noted }).noted
+      → All P (if b then l else record l { noted = places_noted from now l.noted; attempts = attempts_noted from now l }).noted
   all_noting true from now l is new all = all
   all_noting false from now l is new all = all_placed (is_noted from l.noted) from now l.noted refl (new is) all
 

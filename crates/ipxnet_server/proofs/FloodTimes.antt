@@ -19,7 +19,7 @@ use Rattle.ipxnet_server.specs.FloodRuns.{ClientsFloodSeldom, floods_passed, pas
 use Rattle.ipxnet_server.specs.Flooders.{flood_limit, flooder_back, flooders_after, is_other_flooder, may_flood}
 use Rattle.ipxnet_server.specs.ServerClients.{are_one_place, client_at}
 use Rattle.ipxnet_server.specs.ServerFloods.{is_client_flood, is_client_limited, is_port_busy, limited_hears, packet_gives, server_flooding, server_giving, server_limiting, server_rate_limiting, server_unlimited, unlimited_hears}
-use Rattle.ipxnet_server.specs.ServerHears.{ServerView, makes_client, server_admitting, server_aged, server_dropping, server_hearing, server_learned, server_met, takers_of}
+use Rattle.ipxnet_server.specs.ServerHears.{ServerView, attempts_noted, makes_client, server_admitting, server_aged, server_dropping, server_hearing, server_learned, server_met, takers_of}
 use Rattle.ipxnet_server.specs.NotedPlaces.{places_noted, places_noted_again}
 use Rattle.ipxnet_server.specs.PeerServers.{is_joined_place}
 use Rattle.ipxnet_server.specs.ServerRuns.{Again, Datagram, NoPacket, OfCore, ServerCall, Turn, server_after, time_of}
@@ -98,7 +98,7 @@ noted_tokens true l m same = refl
 noted_tokens false l m same = same
 
 hearing_tokens : (heard : Disposition) (from : SocketAddrV4) (now : ℕ) (l : ServerView) → (server_hearing heard from now l).flooders ≡ l.flooders
-hearing_tokens (Registered answer) from now l = noted_tokens (is_some (client_at from l.clients)) l (record l { noted = places_noted from now l.noted }) refl
+hearing_tokens (Registered answer) from now l = noted_tokens (is_some (client_at from l.clients)) l (record l { noted = places_noted from now l.noted; attempts = attempts_noted from now l }) refl
 hearing_tokens (Pinged giver answer) from now l = refl
 hearing_tokens (ToClient place) from now l = refl
 hearing_tokens (ToOthers giver) from now l = refl

@@ -21,7 +21,7 @@ use Rattle.ipxnet_server.specs.PeerServers.{is_joined_place}
 use Rattle.ipxnet_server.specs.Pings.{asks_by, is_asked, is_pinged}
 use Rattle.ipxnet_server.specs.ServerClients.{are_one_place, client_at, is_client_at}
 use Rattle.ipxnet_server.specs.ServerFloods.{limited_hears, packet_gives, packet_hears, server_heard, server_unlimited, unlimited_hears}
-use Rattle.ipxnet_server.specs.ServerHears.{ServerView, answer_of, is_joined_taker, is_registration, is_taker, joined_server, makes_client, registration_hears, joined_hears, server_admitting, server_aged, server_hearing, server_hears, server_hears_from, server_learned, server_met, server_pinging, stranger_drop, stranger_hears, takers_of}
+use Rattle.ipxnet_server.specs.ServerHears.{ServerView, attempts_noted, answer_of, is_joined_taker, is_registration, is_taker, joined_server, makes_client, registration_hears, joined_hears, server_admitting, server_aged, server_hearing, server_hears, server_hears_from, server_learned, server_met, server_pinging, stranger_drop, stranger_hears, takers_of}
 use Rattle.ipxnet_server.specs.ServerRuns.{Again, Datagram, NoPacket, OfCore, ServerCall, Turn, server_after, shows_node, time_of}
 use Rattle.ipxnet_server.specs.Unshown.{WhoShowsNothingGetsLittle, all_sent_to, given_to_place, is_again_at, one_if, reaches_place, registers_from, registrations_from, sent_to, times_again}
 use Rattle.ipxnet_server.proofs.Asked.{InLine, from_start, heard_pinged, again_pinged, given_pinged}
@@ -86,7 +86,7 @@ due_placed : (b : Bool) (from place : SocketAddrV4) (now t : ℕ) (ns : List Not
 due_placed true from place now t ns = omega arith
 due_placed false from place now t ns = due_with from place now t ns
 
-due_noting : (b : Bool) (from place : SocketAddrV4) (now t : ℕ) (l : ServerView) → due place t (if b then l else record l { noted = places_noted from now l.noted }).noted ≤ due place t l.noted + (if are_one_place from place then 2 else 0)
+due_noting : (b : Bool) (from place : SocketAddrV4) (now t : ℕ) (l : ServerView) → due place t (if b then l else record l { noted = places_noted from now l.noted; attempts = attempts_noted from now l }).noted ≤ due place t l.noted + (if are_one_place from place then 2 else 0)
 due_noting true from place now t l = omega arith
 due_noting false from place now t l = due_placed (is_noted from l.noted) from place now t l.noted
 

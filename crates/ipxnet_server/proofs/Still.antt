@@ -23,7 +23,7 @@ use Rattle.ipx_wire.specs.declared.address.Node.{Node}
 use Rattle.ipx_wire.specs.declared.ipx.packet.IpxHeader.{IpxHeader}
 use Rattle.ipxnet_server.specs.ServerClients.{are_one_place, client_at, client_heard, client_of_node, client_that_goes, clients_but, clients_heard, clients_moved, clients_with, is_client_at, new_client, node_of_place}
 use Rattle.ipxnet_server.specs.NotedPlaces.{places_noted}
-use Rattle.ipxnet_server.specs.ServerHears.{ServerView, all_get, client_gets, is_from_server, is_given_from_server, is_given_to_service, is_joined_taker, is_of_client, is_of_joined, is_to_service, joined_takers, server_gives, server_hearing, server_learned, max_client_bytes}
+use Rattle.ipxnet_server.specs.ServerHears.{ServerView, attempts_noted, all_get, client_gets, is_from_server, is_given_from_server, is_given_to_service, is_joined_taker, is_of_client, is_of_joined, is_to_service, joined_takers, server_gives, server_hearing, server_learned, max_client_bytes}
 use Rattle.ipxnet_server.specs.PeerServers.{is_joined_place, remote_client_of}
 use Rattle.ipxnet_server.specs.ServerInside.{MayKnow, Known, Same}
 use Rattle.ipxnet_server.proofs.Hears.{taker_known}
@@ -182,7 +182,7 @@ told_clients None from now l = refl
 told_clients (Some node) from now l = refl
 
 pub others_clients : (heard : Disposition) (from : SocketAddrV4) (now : ℕ) (l : ServerView) → is_of_client heard ≡ false → (server_hearing heard from now l).clients ≡ l.clients
-others_clients (Registered answer) from now l e = noted_clients (is_some (client_at from l.clients)) l (record l { noted = places_noted from now l.noted }) refl
+others_clients (Registered answer) from now l e = noted_clients (is_some (client_at from l.clients)) l (record l { noted = places_noted from now l.noted; attempts = attempts_noted from now l }) refl
 others_clients (Pinged giver answer) from now l e = cc
 others_clients (ToClient place) from now l e = cc
 others_clients (ToOthers giver) from now l e = cc
@@ -210,7 +210,7 @@ noted_far false l m same = same
 
 -- if no joined router sent it, no remote client changes
 pub hearing_far : (heard : Disposition) (from : SocketAddrV4) (now : ℕ) (l : ServerView) → is_of_joined heard ≡ false → (server_hearing heard from now l).far ≡ l.far
-hearing_far (Registered answer) from now l e = noted_far (is_some (client_at from l.clients)) l (record l { noted = places_noted from now l.noted }) refl
+hearing_far (Registered answer) from now l e = noted_far (is_some (client_at from l.clients)) l (record l { noted = places_noted from now l.noted; attempts = attempts_noted from now l }) refl
 hearing_far (Pinged giver answer) from now l e = refl
 hearing_far (ToClient place) from now l e = refl
 hearing_far (ToOthers giver) from now l e = refl
@@ -257,7 +257,7 @@ noted_rest true l m same = refl
 noted_rest false l m same = same
 
 pub hearing_rest : (heard : Disposition) (from : SocketAddrV4) (now : ℕ) (l : ServerView) → rest_of (server_hearing heard from now l) ≡ rest_of l
-hearing_rest (Registered answer) from now l = noted_rest (is_some (client_at from l.clients)) l (record l { noted = places_noted from now l.noted }) refl
+hearing_rest (Registered answer) from now l = noted_rest (is_some (client_at from l.clients)) l (record l { noted = places_noted from now l.noted; attempts = attempts_noted from now l }) refl
 hearing_rest (Pinged giver answer) from now l = refl
 hearing_rest (ToClient place) from now l = refl
 hearing_rest (ToOthers giver) from now l = refl

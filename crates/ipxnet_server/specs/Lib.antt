@@ -1,6 +1,7 @@
 pub mod ServerClients
 pub mod AskTimes
 pub mod NotedPlaces
+pub mod Attempts
 pub mod Pings
 pub mod PeerServers
 pub mod Flooders

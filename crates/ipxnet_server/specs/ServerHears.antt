@@ -1,7 +1,7 @@
 -- What an ipxnet server does with a datagram, and with a packet of its router. Registration and ping are
 -- those of DOSBox 0.74-3, with its socket and layout. The order of the cases, what is dropped, and all that
 -- joined routers do, is defined by this project.
-use Rattle.std.specs.Prelude.{◌≡◌, ℕ, List, [], length, replicate, Bool, true, false, not, ◌==◌, ◌&&◌, ◌||◌, nat_le, nat_lt, is_some, Option, Some, None, Result, Ok, Err, if◌then◌else◌}
+use Rattle.std.specs.Prelude.{◌≡◌, ℕ, List, [], length, replicate, Bool, true, false, not, ◌==◌, ◌&&◌, ◌||◌, nat_le, nat_lt, find, is_some, Option, Some, None, Result, Ok, Err, if◌then◌else◌}
 use Rattle.std.specs.Str.{bytes_eq}
 use Rattle.ipx_wire.specs.Assigned.{broadcast_node, ipx_header_size, local_network, rip_socket, sap_socket, unknown_type}
 use Rattle.ipx_wire.specs.Ipx.{IsIpx, PacketView, number, packet_of}
@@ -25,16 +25,18 @@ use Rattle.ipxnet_server.specs.declared.port.ServerPort.{ServerPort}
 use Rattle.token_bucket.specs.declared.bucket.RateLimit.{RateLimit}
 use Rattle.token_bucket.specs.declared.bucket.TokenBucket.{TokenBucket}
 use Rattle.token_bucket.specs.TokenBucket.{full_bucket}
-use Rattle.ipxnet_server.specs.ServerClients.{are_one_place, is_address_full, is_server_full, client_at, client_of_node, clients_heard, clients_left, clients_with, node_of_place}
+use Rattle.ipxnet_server.specs.ServerClients.{are_one_place, is_client_of_ip, is_address_full, is_server_full, client_at, client_of_node, clients_heard, clients_left, clients_with, node_of_place}
 use Rattle.ipxnet_server.specs.ServerCounted.{drop_counted, no_drops}
 use Rattle.ipxnet_server.specs.PeerServers.{remote_client_of, remote_clients_heard, remote_clients_left, is_joined_place}
 use Rattle.ipxnet_server.specs.Pings.{is_one_asked, is_one_pinged}
+use Rattle.ipxnet_server.specs.Attempts.{AttemptsView, attempts_after, no_repeats}
 use Rattle.ipxnet_server.specs.NotedPlaces.{noted_left, noted_without, places_noted}
 
 -- a server: its port, the most clients that it may have, its clients in the order in which they were last
 -- heard, and its counts. Also the addresses of joined routers, and their clients, when its clients were pinged
--- the last time, and who registered, has shown nothing yet, and is still to be pinged. Then the tokens for what
--- is for all: the clients that miss some of theirs, those of the port, and which client was limited last
+-- the last time, who registered, has shown nothing yet, and is still to be pinged, and which IP addresses register
+-- again and again. Then the tokens for what is for all: the clients that miss some of theirs, those of the port,
+-- and which client was limited last
 pub record ServerView : Type 0 where
   pub port : ServerPort
   pub most : ℕ
@@ -44,6 +46,7 @@ pub record ServerView : Type 0 where
   pub far : List RemoteClient
   pub pinged : ℕ
   pub noted : List Noted
+  pub attempts : AttemptsView
   pub flooders : List Flooder
   pub copies : TokenBucket
   pub limited : Option LimitedFlood
@@ -403,11 +406,16 @@ server_dropping drop l = record l { counts = drop_counted drop l.counts }
 abbrev pub server_knowing : SocketAddrV4 → ℕ → ServerView → ServerView
 server_knowing from now l = record l { clients = clients_heard from now l.clients }
 
--- an address registered. It is noted if no client is known there and it is not noted yet, and nothing else changes
+-- an address registered. If no client is known there it is noted, if it is not noted yet. If nobody of its IP
+-- address is a client, it is remembered how often it does that. Nothing else changes
+abbrev pub attempts_noted : SocketAddrV4 → ℕ → ServerView → AttemptsView
+attempts_noted from now l =
+    if is_some (find (is_client_of_ip from) l.clients) then l.attempts else attempts_after from now l.attempts
+
 abbrev pub server_noting : SocketAddrV4 → ℕ → ServerView → ServerView
 server_noting from now l =
     if is_some (client_at from l.clients) then l
-    else record l { noted = places_noted from now l.noted }
+    else record l { noted = places_noted from now l.noted; attempts = attempts_noted from now l }
 
 -- who sent from an address became a client, by the node of that
 abbrev pub server_admitting : SocketAddrV4 → ℕ → ServerView → ServerView
@@ -467,6 +475,7 @@ joined_server port most routers = record {
   far = [];
   pinged = 0;
   noted = [];
+  attempts = record { recent = []; repeats = no_repeats };
   flooders = [];
   copies = full_bucket copies_limit;
   limited = None;

@@ -1,9 +1,11 @@
 -- Definitions for private functions of a server.
 use Rattle.std.specs.Prelude.{◌≡◌, ◌≤◌, ℕ, List, [], length, true, false, None, is_some}
 use Rattle.ipx_wire.specs.declared.ipx.packet.IpxHeader.{IpxHeader}
+use Rattle.ipxnet_server.specs.declared.attempts.Attempt.{Attempt}
 use Rattle.ipxnet_server.specs.declared.clients.Client.{Client}
 use Rattle.ipxnet_server.specs.declared.disposition.Disposition.{Disposition}
 use Rattle.ipxnet_server.specs.declared.disposition.Disposition.TheVariants.{Registered}
+use Rattle.ipxnet_server.specs.Attempts.{max_attempts}
 use Rattle.ipxnet_server.specs.NotedPlaces.{AreFewNotesOfEachIp, max_noted}
 use Rattle.ipxnet_server.specs.declared.noted.Noted.{Noted}
 use Rattle.ipxnet_server.specs.declared.peer_servers.RemoteClient.{RemoteClient}
@@ -58,6 +60,11 @@ pub record AreNoted (noted : List Noted) (room : ℕ) : Type 0 where
   pub within : length noted ≤ max_noted
   pub each : AreFewNotesOfEachIp noted
   pub all : room ≡ max_noted
+
+-- what holds for the registrations that are remembered: no more than allowed, and memory for all
+pub record AreAttempts (recent : List Attempt) (room : ℕ) : Type 0 where
+  pub within : length recent ≤ max_attempts
+  pub all : room ≡ max_attempts
 
 -- what holds for each datagram of `size` bytes, whatever becomes of it. It is never sent back to its sender,
 -- and its answer is no longer. It goes from clients to clients, and a joined router's stays among those

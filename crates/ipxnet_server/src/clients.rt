@@ -199,6 +199,13 @@ impl Clients {
         find_node(&self.known, node).copied()
     }
 
+    /// Whether a client has the IP address of a place.
+    pub fn has_ip_of(&self, place: SocketAddrV4) -> bool
+        ensures { result ≡ is_some (find (is_client_of_ip place) self.now.known) }
+    {
+        find_of_ip(&self.known, place).is_some()
+    }
+
     /// Whether there is no room for one more of the IP address of a place: it has as many clients
     /// as one may have, all heard within the last minute.
     pub fn is_address_full(&self, place: SocketAddrV4, now: u64) -> bool

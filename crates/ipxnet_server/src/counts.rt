@@ -29,7 +29,7 @@ pub struct ServerCounts {
 }
 
 /// Adds one to a count, which stays at the greatest u64.
-fn saturating_increment(count: &mut u64)
+pub(crate) fn saturating_increment(count: &mut u64)
     ensures { count.new ≡ drops_raised count.old }
 {
     *count = count.saturating_add(1);

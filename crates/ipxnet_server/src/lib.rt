@@ -11,6 +11,7 @@
 #![tactic(auto)]
 
 mod ask_times;
+mod attempts;
 mod client_node;
 mod clients;
 mod counts;
@@ -35,6 +36,7 @@ pub use ask_times::{
     FIRST_ASK_MS, FIRST_RESTART_ASK_MS, NoteCause, RESTART_STEP_MS, SECOND_ASK_MS,
     SECOND_RESTART_ASK_MS,
 };
+pub use attempts::Repeats;
 pub use client_node::node_of;
 pub use clients::{
     Client, FORGOTTEN_AFTER_MS, MAX_ADDRESS_CLIENTS, MAX_CLIENTS, REPLACED_AFTER_MS,

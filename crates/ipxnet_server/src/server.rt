@@ -19,6 +19,7 @@ ghost use Rattle.ipxnet_server.specs.ServerInside.{IsSoundHearing, MayKnow};
 ghost use Rattle.ipxnet_server.specs.PeerServers.{is_joined_place, max_remote_clients};
 ghost use Rattle.ipxnet_server.specs.NotedPlaces.{AreFewNotesOfEachIp, max_noted};
 
+use crate::attempts::{Attempts, Repeats};
 use crate::client_node::node_of;
 use crate::clients::{Client, Clients, MAX_CLIENTS};
 use crate::counts::ServerCounts;
@@ -47,6 +48,7 @@ pub struct IpxnetServer {
     pub(crate) joined: Joined,
     pub(crate) pinged: u64,
     pub(crate) noted: NotedPlaces,
+    pub(crate) attempts: Attempts,
     pub(crate) flooders: Flooders,
     pub(crate) copies: TokenBucket,
     pub(crate) limited: Option<LimitedFlood>,
@@ -68,6 +70,7 @@ impl Model for IpxnetServer {
       far = l.joined.far;
       pinged = l.pinged;
       noted = l.noted;
+      attempts = l.attempts;
       flooders = l.flooders;
       copies = l.copies;
       limited = l.limited;
@@ -110,6 +113,7 @@ impl IpxnetServer {
         let clients = Clients::new(alloc, most)?;
         let joined = Joined::new(alloc, routers)?;
         let noted = NotedPlaces::new(alloc)?;
+        let attempts = Attempts::new(alloc)?;
         let flooders = Flooders::new(alloc)?;
         Ok(IpxnetServer {
             port,
@@ -118,6 +122,7 @@ impl IpxnetServer {
             joined,
             pinged: 0,
             noted,
+            attempts,
             flooders,
             copies: TokenBucket::full(COPIES_LIMIT),
             limited: None,
@@ -177,6 +182,15 @@ impl IpxnetServer {
         self.noted.all()
     }
 
+    /// How often an IP address of which nobody was a client registered three times within a minute,
+    /// and where the last of these registrations came from: do the answers reach it? Of the last 64
+    /// registrations at most two of an IP address are remembered.
+    pub fn repeats(&self) -> Repeats
+        ensures { result ≡ self.now.attempts.repeats }
+    {
+        self.attempts.repeats()
+    }
+
     /// Whether bytes with these takers are sent to the joined router at an address.
     pub fn joins(&self, takers: Recipients, place: SocketAddrV4) -> bool
         ensures { result ≡ takers_join self.now takers place }
@@ -229,8 +243,12 @@ impl IpxnetServer {
     fn note(&mut self, from: SocketAddrV4, now: u64)
         ensures { self.new ≡ server_noting from now self.old }
     {
-        if self.clients.at(from).is_none() {
-            self.noted.put(from, now);
+        if self.clients.at(from).is_some() {
+            return;
+        }
+        self.noted.put(from, now);
+        if !self.clients.has_ip_of(from) {
+            self.attempts.put(from, now);
         }
     }
 

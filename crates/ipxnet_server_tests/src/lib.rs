@@ -29,6 +29,8 @@ mod refused;
 #[cfg(test)]
 mod registering;
 #[cfg(test)]
+mod repeats;
+#[cfg(test)]
 mod restart;
 #[cfg(test)]
 mod room;
