@@ -35,6 +35,11 @@ abbrev pub IsPeer : Data → Peer → Type 0
 IsPeer d peer = ((p : IpPrefix) × (peer ≡ Prefix p) × IsPrefix d p)
     ⊎ ((name : String Global) × (peer ≡ Host name) × IsHostName d name)
 
+-- a string gives a peer, without the copy of a name: it is a prefix, or may be the name of a host
+abbrev pub IsPeerText : Data → Type 0
+IsPeerText d = ((p : IpPrefix) × IsPrefix d p)
+    ⊎ ((name : List ℕ) × (as_str d ≡ Some name) × (is_host_name name ≡ true))
+
 -- an array of them
 abbrev pub ArePeersOf : Data → Vec Peer Global → Type 0
 ArePeersOf d peers = (ds : Items) × (as_array d ≡ Some ds) × AreEach IsPeer ds peers.items

@@ -5,6 +5,7 @@ use crate::escaped::Escaped;
 use crate::ethernet_values::end_of;
 use crate::fault::ConfigError;
 use crate::fields::held;
+use crate::ipxnet_peers::is_peer;
 use crate::key::Key;
 use crate::text::{LAST_PORT, LAST_ROUTE};
 use crate::toml_text::table_of;
@@ -132,7 +133,7 @@ fn single_remark(key: Key, value: &Value) -> &'static str {
     "; write it in double quotes"
 }
 
-/// Whether a table is that of an ipxnet port, whose peers need not be IP addresses.
+/// Whether a table is that of an ipxnet port, whose peers may also be prefixes and names of hosts.
 fn is_ipxnet(table: &Table) -> bool {
     held(table, Key::Kind).is_some_and(|kind| kind.as_str() == Some("ipxnet"))
 }
@@ -147,7 +148,12 @@ fn is_in_peers(table: &Table, value: &Value) -> bool {
 /// Why an entry of a list is wrong.
 fn entry_fault(table: &Table, key: Key, value: &Value) -> Option<&'static str> {
     match key {
-        Key::Peers if is_ipxnet(table) => None,
+        Key::Peers if is_ipxnet(table) => {
+            if is_peer(value) {
+                return None;
+            }
+            Some("is no valid IP address, prefix or host name")
+        }
         Key::Peers | Key::Routers if parse_ip_address(value).is_none() => {
             Some("is no valid IP address")
         }

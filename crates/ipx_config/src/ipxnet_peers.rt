@@ -1,10 +1,11 @@
 //! The peers of an ipxnet port.
 
-ghost use Rattle.std.specs.Prelude.{◌≡◌, IfOk};
+ghost use Rattle.std.specs.Prelude.{◌≡◌, IfOk, true};
 ghost use Rattle.std.specs.List.{list_all, list_any};
 ghost use Rattle.toml.specs.View.{items_view, view};
 ghost use Rattle.ipx_config.specs.Fields.{Reads};
-ghost use Rattle.ipx_config.specs.IpxnetPeers.{ArePeersOf, IsHostName, IsPeer, IsPrefix, ReadsPeers, is_host_name, is_letter, is_name_byte};
+ghost use Rattle.ipx_config.specs.declared.ipxnet_port.Peer.{Peer};
+ghost use Rattle.ipx_config.specs.IpxnetPeers.{ArePeersOf, IsHostName, IsPeer, IsPeerText, IsPrefix, ReadsPeers, is_host_name, is_letter, is_name_byte};
 
 use crate::ipxnet_port::Peer;
 use crate::values::parse_ip_address;
@@ -56,6 +57,20 @@ fn is_host_name(text: &[u8]) -> bool
     ensures { result ≡ is_host_name text.now }
 {
     text.len() <= MAX_NAME && are_name_bytes(text) && has_letter(text)
+}
+
+/// Whether a value gives a peer.
+pub fn is_peer(value: &Value) -> bool
+    ensures peer { (peer : Peer) → IsPeer (view value.now) peer → result ≡ true }
+    ensures none { result ≡ true → IsPeerText (view value.now) }
+{
+    if prefix_of(value).is_some() {
+        return true;
+    }
+    match value.as_str() {
+        Some(name) => is_host_name(name.as_bytes()),
+        None => false,
+    }
 }
 
 /// A copy of the name of a host that a value gives.

@@ -22,7 +22,7 @@ const HOST: &str =
     "network = \"00000011\"\naddress = \"10.1.0.20\"\nrouter = \"10.1.0.1\"\nsocket = \"4002\"\n";
 
 /// A port, what follows it in the file of a router, and how the line of the fault ends.
-const SITES: [(&str, &str, &str); 26] = [
+const SITES: [(&str, &str, &str); 31] = [
     (
         "[[port]]\nnetwork = \"00000011\n",
         PLAIN,
@@ -143,6 +143,31 @@ const SITES: [(&str, &str, &str); 26] = [
         PLAYERS,
         "join = [\"10.1.0.2:1\", \"r2:2130\"]",
         "; \"r2:2130\" is no valid address:port",
+    ),
+    (
+        PLAYERS,
+        "peers = [\"203.0.113.0/24\", \"friend.example\", \"198.51.100.7:2130\", \"::1\"]",
+        "; \"198.51.100.7:2130\" is no valid IP address, prefix or host name",
+    ),
+    (
+        PLAYERS,
+        "peers = [\"203.0.113.9\", \"203.0.113.0/7\"]",
+        "; \"203.0.113.0/7\" is no valid IP address, prefix or host name",
+    ),
+    (
+        PLAYERS,
+        "peers = [\"203.0.113.256\"]",
+        "; \"203.0.113.256\" is no valid IP address, prefix or host name",
+    ),
+    (
+        PLAYERS,
+        "peers = [\"my friend\"]",
+        "; \"my friend\" is no valid IP address, prefix or host name",
+    ),
+    (
+        PLAYERS,
+        "peers = [\"203.0.113.9\", 10]",
+        "; entry 2 is no text in double quotes",
     ),
     (
         "[[port]]\nnetwork = \"00000011\"\naddress = \"10.1.0.1\"\npeers = [\"10.1.0.20\"]\n",
