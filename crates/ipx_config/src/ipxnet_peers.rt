@@ -4,7 +4,6 @@ ghost use Rattle.std.specs.Prelude.{◌≡◌, IfOk, true};
 ghost use Rattle.std.specs.List.{list_all, list_any};
 ghost use Rattle.toml.specs.View.{items_view, view};
 ghost use Rattle.ipx_config.specs.Fields.{Reads};
-ghost use Rattle.ipx_config.specs.declared.ipxnet_port.Peer.{Peer};
 ghost use Rattle.ipx_config.specs.IpxnetPeers.{ArePeersOf, IsHostName, IsPeer, IsPeerText, IsPrefix, ReadsPeers, is_host_name, is_letter, is_name_byte};
 
 use crate::ipxnet_port::Peer;
@@ -61,15 +60,15 @@ fn is_host_name(text: &[u8]) -> bool
 
 /// Whether a value gives a peer.
 pub fn is_peer(value: &Value) -> bool
-    ensures peer { (peer : Peer) → IsPeer (view value.now) peer → result ≡ true }
+    ensures peer { IsPeerText (view value.now) → result ≡ true }
     ensures none { result ≡ true → IsPeerText (view value.now) }
 {
-    if prefix_of(value).is_some() {
-        return true;
-    }
-    match value.as_str() {
-        Some(name) => is_host_name(name.as_bytes()),
-        None => false,
+    match prefix_of(value) {
+        Some(_) => true,
+        None => match value.as_str() {
+            Some(name) => is_host_name(name.as_bytes()),
+            None => false,
+        },
     }
 }
 
