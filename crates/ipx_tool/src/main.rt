@@ -9,7 +9,7 @@ mod words;
 
 use build::{COMMIT, TOOLCHAIN};
 use clap::error::ErrorKind;
-use commands::{CHECK, IPXNET, UDP};
+use commands::{CHECK, IPXNET, SEND, UDP};
 use ipx_config::{Target, check_site};
 use ipx_host::{check_host, do_listen, do_send};
 use ipx_inspect::{do_check, do_hop, do_show, do_show_frames, tell_no_memory};
@@ -114,6 +114,8 @@ fn is_number(word: &str) -> bool {
     word.bytes().all(|byte| byte.is_ascii_digit())
 }
 
+const PORT_TIP: &str = "tip: write --port before a port, such as --port 2130";
+
 /// What helps with an argument that some try.
 fn tip_for(words: &[String]) -> Option<&'static str> {
     match words {
@@ -123,7 +125,17 @@ fn tip_for(words: &[String]) -> Option<&'static str> {
             )
         }
         [_, command, word] if is_number(word) && matches!(command.as_str(), IPXNET | UDP) => {
-            Some("tip: write --port before a port, such as --port 2130")
+            Some(PORT_TIP)
+        }
+        [_, command, flag, _] if flag.as_str() == "-p" && command.as_str() == IPXNET => {
+            Some(PORT_TIP)
+        }
+        [_, command, word] if command.as_str() == IPXNET && word.ends_with(".toml") => {
+            Some("tip: ipx route FILE starts the router of a configuration file")
+        }
+        [_, command, _, _, _, _, word]
+            if command.as_str() == SEND && !word.as_bytes().starts_with(b"-") => {
+            Some("tip: ipx send reads standard input: write < FILE after SOCKET")
         }
         _ => None,
     }
