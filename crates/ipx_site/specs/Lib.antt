@@ -1,4 +1,5 @@
 pub mod Secrets
+pub mod ClientsFile
 pub mod KnownPlaces
 pub mod ControlSenders
 pub mod SiteCore

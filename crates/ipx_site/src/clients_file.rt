@@ -1,13 +1,17 @@
 //! Writing the file of a router's secret and of its ipxnet clients while it runs.
 
-ghost use Rattle.std.specs.Prelude.{◌≤◌, IfOk, length};
+ghost use Rattle.std.specs.Prelude.{◌≡◌, ◌≤◌, IfOk, IfSome, IsPermutation, length, map, string_bytes};
+ghost use Rattle.std.specs.List.{flat_map};
+ghost use Rattle.ipx_site.specs.ClientsFile.{AreHeardLast, IsLatestFirst, heard_of};
+ghost use Rattle.ipx_site.specs.Secrets.{kept_text};
 ghost use Rattle.ipx_table_dump.specs.ClientsText.{max_client_places};
 
 use crate::router_ports::UdpRouterPorts;
 use crate::secret_file::{KeptClients, secret_to_text, write_private};
 use ipx_sockets::is_over;
 use ipx_table_dump::{ClientPlace, MAX_CLIENT_PLACES};
-use ipxnet_server::{IpxnetServer, Secret};
+use ipx_wire::Network;
+use ipxnet_server::{Client, IpxnetServer, Secret};
 use std::alloc::{AllocError, Global};
 use std::cmp::Reverse;
 use std::rt::Files;
@@ -32,6 +36,13 @@ struct HeardClient {
     heard: u64,
 }
 
+/// The clients that the file of a secret is to list, and its text.
+#[derive(Drop)]
+struct NewList {
+    clients: Vec<ClientPlace>,
+    text: String,
+}
+
 /// The file of a router's secret and of its clients, if it has one.
 #[derive(Drop)]
 pub struct ClientsFile {
@@ -44,37 +55,70 @@ pub struct ClientsFile {
     written: Option<u64>,
 }
 
-/// Adds the clients of a server.
-fn add_clients(clients: &mut Vec<HeardClient>, server: &IpxnetServer) -> Result<(), AllocError> {
-    let network = server.port().network;
-    for client in server.clients() {
-        clients.push(HeardClient {
-            client: ClientPlace {
-                network,
-                place: client.place,
-            },
-            heard: client.heard,
-        })?;
+/// A client of the port of this network.
+fn heard_client(network: Network, client: &Client) -> HeardClient
+    ensures { result ≡ record {
+      client = record { network = network; place = client.now.place };
+      heard = client.now.heard;
+    } }
+{
+    HeardClient {
+        client: ClientPlace {
+            network,
+            place: client.place,
+        },
+        heard: client.heard,
     }
-    Ok(())
 }
 
-/// The clients of servers, those first that were heard last.
-fn heard_clients(alloc: Global, servers: &[IpxnetServer]) -> Result<Vec<HeardClient>, AllocError> {
-    let mut clients = Vec::new(alloc);
+/// The clients of a server.
+fn clients_of(alloc: Global, server: &IpxnetServer) -> Result<Vec<HeardClient>, AllocError>
+    ensures { IfOk result (λ v. v.items ≡ heard_of server.now) }
+{
+    let network = server.port().network;
+    server
+        .clients()
+        .iter()
+        .map(|client| heard_client(network, client))
+        .collect(alloc)
+}
+
+/// The clients of servers, in the order of the servers.
+fn all_clients(alloc: Global, servers: &[IpxnetServer]) -> Result<Vec<HeardClient>, AllocError>
+    ensures { IfOk result (λ v. v.items ≡ flat_map heard_of servers.now) }
+{
+    let mut all = Vec::new(alloc);
     for server in servers {
-        add_clients(&mut clients, server)?;
+        let clients = clients_of(alloc, server)?;
+        all.extend_from_slice(&clients)?;
     }
+    Ok(all)
+}
+
+/// The same, those first that were heard last.
+fn heard_clients(alloc: Global, servers: &[IpxnetServer]) -> Result<Vec<HeardClient>, AllocError>
+    ensures all { IfOk result (λ v. IsPermutation (flat_map heard_of servers.now) v.items) }
+    ensures order { IfOk result (λ v. IsLatestFirst v.items) }
+{
+    let mut clients = all_clients(alloc, servers)?;
     clients.sort_by_key(|client| Reverse(client.heard))?;
     Ok(clients)
 }
 
+/// The clients, without the times.
+fn places_of(alloc: Global, heard: &[HeardClient]) -> Result<Vec<ClientPlace>, AllocError>
+    ensures { IfOk result (λ v. v.items ≡ map (λ c. c.client) heard.now) }
+{
+    heard.iter().map(|client| client.client).collect(alloc)
+}
+
 /// The clients of servers that were heard last, at most 1,024.
 fn last_heard(alloc: Global, servers: &[IpxnetServer]) -> Result<Vec<ClientPlace>, AllocError>
-    ensures { IfOk result (λ v. length v.items ≤ max_client_places) }
+    ensures last { IfOk result (λ v. AreHeardLast servers.now v.items) }
+    ensures few { IfOk result (λ v. length v.items ≤ max_client_places) }
 {
     let heard = heard_clients(alloc, servers)?;
-    let mut clients: Vec<ClientPlace> = heard.iter().map(|client| client.client).collect(alloc)?;
+    let mut clients = places_of(alloc, &heard)?;
     clients.truncate(MAX_CLIENT_PLACES);
     Ok(clients)
 }
@@ -111,31 +155,18 @@ impl ClientsFile {
         is_over(self.looked, LOOK_PERIOD, now) && is_over(self.written, WRITE_PERIOD, now)
     }
 
-    /// Writes the file, if these are other clients than it lists.
-    fn write<F: Files>(
-        &mut self,
-        rt: &F,
-        alloc: Global,
-        clients: Vec<ClientPlace>,
-        now: u64,
-    ) -> Result<(), ClientsFileFault> {
-        let Some(path) = &self.path else {
-            return Ok(());
-        };
+    /// What the file is to hold, if the clients of these servers are others than it lists: this
+    /// router's secret, and those that were heard last.
+    fn news(&self, alloc: Global, servers: &[IpxnetServer]) -> Result<Option<NewList>, AllocError>
+        ensures { IfOk result (λ news. IfSome news (λ n. AreHeardLast servers.now n.clients.items
+            × (string_bytes n.text ≡ kept_text self.now.secret n.clients.items))) }
+    {
+        let clients = last_heard(alloc, servers)?;
         if are_same(&clients, &self.listed) {
-            return Ok(());
+            return Ok(None);
         }
-        self.written = Some(now);
-        let Ok(text) = secret_to_text(alloc, self.secret, &clients) else {
-            return Err(ClientsFileFault::OutOfMemory);
-        };
-        match write_private(rt, alloc, path, text.as_str()) {
-            Ok(Ok(())) => {}
-            Ok(Err(_)) => return Err(ClientsFileFault::File),
-            Err(_) => return Err(ClientsFileFault::OutOfMemory),
-        }
-        self.listed = clients;
-        Ok(())
+        let text = secret_to_text(alloc, self.secret, &clients)?;
+        Ok(Some(NewList { clients, text }))
     }
 
     /// Writes the clients of a router's ports into the file at `now`, in milliseconds, if they are
@@ -147,13 +178,26 @@ impl ClientsFile {
         ports: &UdpRouterPorts,
         now: u64,
     ) -> Result<(), ClientsFileFault> {
-        if self.path.is_none() || !self.is_time(now) {
+        if !self.is_time(now) {
             return Ok(());
         }
+        let Some(path) = &self.path else {
+            return Ok(());
+        };
         self.looked = Some(now);
-        match last_heard(alloc, ports.servers().servers()) {
-            Ok(clients) => self.write(rt, alloc, clients, now),
-            Err(_) => Err(ClientsFileFault::OutOfMemory),
+        let Ok(news) = self.news(alloc, ports.servers().servers()) else {
+            return Err(ClientsFileFault::OutOfMemory);
+        };
+        let Some(news) = news else {
+            return Ok(());
+        };
+        self.written = Some(now);
+        match write_private(rt, alloc, path, news.text.as_str()) {
+            Ok(Ok(())) => {}
+            Ok(Err(_)) => return Err(ClientsFileFault::File),
+            Err(_) => return Err(ClientsFileFault::OutOfMemory),
         }
+        self.listed = news.clients;
+        Ok(())
     }
 }
