@@ -17,6 +17,7 @@ pub mod EthernetTotals
 pub mod IpxnetTotals
 pub mod PortsView
 pub mod SiteMarks
+pub mod RepeatLog
 pub mod ClientLog
 pub mod KnownFile
 pub mod RoutingRuns

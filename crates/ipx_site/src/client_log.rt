@@ -1,10 +1,13 @@
-//! Logs the clients that connect to a router's ipxnet ports, and those that time out.
+//! Logs the clients that connect to a router's ipxnet ports, those that time out, and the IP
+//! addresses from which none does.
 
 ghost use Rattle.std.specs.Prelude.{◌≡◌, ◌≤◌, ◌+◌, ◌++◌, [], IfOk, None, OnErr, OnOk, Some, length};
 ghost use Rattle.ipx_site.specs.ClientLog.{all_clients, clients_come, clients_gone, clients_logged, clients_without};
 ghost use Rattle.ipx_site.specs.ClientLog.{client_key, has_client_key, is_listed_client, max_client_lines, port_clients, port_index_clients};
-ghost use Rattle.ipx_sockets.specs.Moments.{HasPassed};
+ghost use Rattle.ipx_site.specs.RepeatLog.{repeats_of_ports};
+ghost use Rattle.ipx_sockets.specs.Moments.{AreLoggedIfDue, HasPassed};
 
+use crate::repeat_log::RepeatLog;
 use crate::router_ports::{PortIndex, UdpRouterPorts};
 use ipx_sockets::is_over;
 use ipx_wire::Node;
@@ -37,11 +40,13 @@ pub struct ClientChanges {
     pub came: Vec<PortClient>,
 }
 
-/// The clients that were logged as connected, and the time of the last look.
+/// The clients that were logged as connected, the time of the last look, and when IP addresses were
+/// logged that register again and again.
 #[derive(Drop)]
 pub struct ClientLog {
     told: Vec<PortClient>,
     looked: Option<u64>,
+    repeats: RepeatLog,
 }
 
 /// What distinguishes a client of a port from all others.
@@ -227,6 +232,7 @@ impl ClientLog {
         ClientLog {
             told: Vec::new(alloc),
             looked: None,
+            repeats: RepeatLog::new(),
         }
     }
 
@@ -249,8 +255,9 @@ impl ClientLog {
     }
 
     /// Looks at the clients of a router's ports at `now`, in milliseconds, and logs those that
-    /// connected or are gone. It logs at most ten lines. If the last look was less than a second
-    /// ago, it does nothing.
+    /// connected or are gone: at most ten lines. It also logs for each port the last IP address that
+    /// registers there again and again, if that is due. If the last look was less than a second ago,
+    /// it does nothing.
     pub(crate) fn tell<R: Log>(
         &mut self,
         rt: &R,
@@ -264,11 +271,15 @@ impl ClientLog {
             ≡ clients_logged self.old.told.items
             (all_clients 1 ports.now.port_indices.items ports.now.servers.servers.items)) }
         ensures refused { OnErr result (self.new.told ≡ self.old.told) }
+        ensures repeats { HasPassed 1000 self.old.looked now → AreLoggedIfDue
+            (repeats_of_ports ports.now.servers.servers.items ports.now.port_indices.items) now
+            self.old.repeats.ports self.new.repeats.ports }
     {
         if !is_over(self.looked, PERIOD, now) {
             return Ok(());
         }
         self.looked = Some(now);
+        self.repeats.tell(rt, ports, now);
         let there = clients_in(alloc, ports)?;
         let news = self.look(alloc, &there)?;
         news.tell(rt);

@@ -24,6 +24,7 @@ mod players;
 mod port_metrics;
 mod ready_ports;
 mod registering;
+mod repeat_log;
 mod route_change_log;
 mod router_counts;
 mod router_ports;
