@@ -4,6 +4,7 @@ import resource
 import select
 import time
 
+from player_boxes import SECONDS, Box
 from player_world import EVERYBODY, NETWORKS, REGISTRATION, Client, Router, answer_to, lobby_table, node_of, shows
 from site_packets import ipx
 from site_world import Watch, die_with_the_parent, free_port, until
@@ -17,6 +18,8 @@ OF_ADDRESS, BROADCASTS = 15, 3_000
 # be left.
 STREAM, STREAM_RATE, WINDOW, SHARE = 16_000, 8_000, 64, 0.9
 FORGERIES, FORGERS, FORGE_SECONDS, TRIES = 20_000, 1_000, 6, 3
+# DOSBox gets so long to start beside them.
+BOX_SECONDS = 60
 
 
 def sending(send, per_second, seconds):
@@ -120,6 +123,35 @@ def check_forged(run):
     end(run, router, [player, honest, *forgers])
 
 
+def check_forged_box(run):
+    """DOSBox connects beside such forgeries: it waits for the answer for five seconds, and does not ask again."""
+    if run.lacks("DOSBox beside forged registrations", "dosbox", "nasm"):
+        return
+    place = (FORGED_AT, free_port([FORGED_AT]))
+    router = Router(run, "forged_box", [lobby_table(NETWORKS[0], place, 'accept = "any"\n')])
+    player = entered((PLAYER, 0), place, NETWORKS[0])
+    forgers = [Client((f"127.7.{number // 250}.{number % 250 + 1}", 0), place) for number in range(FORGERS)]
+    child = sending(lambda number: forgers[number % FORGERS].send(REGISTRATION), FORGERIES, BOX_SECONDS)
+    start = time.monotonic()
+    time.sleep(1)
+    box = Box(run, "beside", place)
+    good = box.listens() and f"connected to server at {place[0]}" in box.said("CONNECT")
+    run.check(f"while {FORGERS} addresses forge {FORGERIES} registrations a second, DOSBox connects at its first try", good,
+              box.said("CONNECT"))
+    if good:
+        packet = box.send((NETWORKS[0], player.node), b"to who plays", [])
+        run.check("and what its program sends comes", until(lambda: packet in player.take(), 5), f"{len(player.got)} packets")
+        is_going_on = os.waitpid(child, os.WNOHANG) == (0, 0)
+        answered = sum(len(it.take()) for it in forgers)
+        run.check("meanwhile the forgeries go on, and are answered", is_going_on and all(it.got for it in forgers),
+                  f"{answered} answers in {time.monotonic() - start:.1f} s")
+    os.kill(child, 9)
+    os.waitpid(child, 0)
+    box.step("exit")
+    box.process.status(SECONDS)
+    end(run, router, [player, *forgers])
+
+
 def end(run, router, clients):
     """A router goes on until it is ended here."""
     run.check(f"the router {router.name} goes on", not router.process.is_over())
@@ -129,6 +161,7 @@ def end(run, router, clients):
 
 
 def check_floods(run):
-    """Both."""
+    """All of them."""
     check_broadcasts(run)
     check_forged(run)
+    check_forged_box(run)

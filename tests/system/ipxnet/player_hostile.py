@@ -23,6 +23,8 @@ FORGERIES = 500
 PLACES, OF_ADDRESS, OTHER = 1_000, 16, "127.0.6.54"
 ROOM_FOR = OF_ADDRESS + 1
 PER_TURN, REGISTER_SECONDS = 20, 3.5
+# Whose address somebody forges gets so many datagrams at most for each registration in its name: the answer, and two pings.
+OF_EACH = 3
 # The last ping of who registered and shows nothing comes 8.5 seconds after that.
 ASK_SECONDS = 9.5
 # One host that registers so often from so many places, while another waits for its first ping. Every few seconds somebody
@@ -165,6 +167,8 @@ class Many:
         _, most = resource.getrlimit(resource.RLIMIT_NOFILE)
         resource.setrlimit(resource.RLIMIT_NOFILE, (most, most))
         self.it, self.sent, self.answers = it, 0, collections.Counter()
+        # How often somebody registered in the name of each, and the sizes of what came there.
+        self.registered, self.sizes = collections.Counter(), collections.defaultdict(list)
         self.wrong, self.began = [], None
         self.clients = [Client((MANY, 0), it.place) for _ in range(PLACES)]
         self.by_file = {client.socket.fileno(): client for client in self.clients}
@@ -176,14 +180,19 @@ class Many:
         """The next few register, and what came to any is taken."""
         self.began = self.began or time.monotonic()
         for number in range(self.sent, self.sent + PER_TURN):
-            self.clients[number % PLACES].send(REGISTRATION)
+            client = self.clients[number % PLACES]
+            client.send(REGISTRATION)
+            self.registered[client.node] += 1
         self.sent += PER_TURN
         self.take()
 
     def take(self):
         for number, _ in self.poll.poll(0):
             client = self.by_file[number]
-            for packet in client.take():
+            before = len(client.pinged)
+            got = client.take()
+            self.sizes[client.node] += [*map(len, got), *[len(REGISTRATION)] * (len(client.pinged) - before)]
+            for packet in got:
                 if packet == answer_to(NETWORK, client.node):
                     self.answers[client.node] += 1
                 else:
@@ -217,6 +226,11 @@ def check_many(it):
     most = max(len(client.pinged) for client in many.clients)
     it.run.check("to who shows nothing come two pings after the last registration at most, and nothing else",
                  0 < pings and most <= 2 and not many.wrong, f"{pings} pings, at most {most}, {many.wrong[:1]}")
+    little = all(len(sizes) <= OF_EACH * many.registered[node] and set(sizes) == {len(REGISTRATION)}
+                 for node, sizes in many.sizes.items())
+    run_sizes = [size for sizes in many.sizes.values() for size in sizes]
+    it.run.check(f"a victim gets at most {OF_EACH} datagrams for each registration in its name, of {len(REGISTRATION)} bytes each",
+                 little and len(many.sizes) == PLACES, f"{len(run_sizes)} datagrams, of {max(run_sizes)} bytes at most")
     for client in many.clients:
         client.send(shows(client.node))
     other = registered((OTHER, 0), it.place)
