@@ -3,7 +3,7 @@
 
 ghost use Rattle.std.specs.Prelude.{◌≡◌, IfErr};
 
-use crate::secret_file::{KeptClients, KeptText, kept_in, secret_to_text, write_private};
+use crate::secret_file::{KeptClients, KeptText, kept_in, write_private};
 use ipx_config::{PortConfig, RouterConfig, tell_no_memory};
 use ipx_inspect::{InputFault, read_up_to};
 use ipxnet_server::Secret;
@@ -41,12 +41,12 @@ fn random_secret<R: Files>(rt: &R) -> io::Result<Secret> {
 
 /// Makes a secret and its file.
 fn make_secret<R: Files>(rt: &R, alloc: Global, path: &str) -> Result<KeptClients, SecretFault> {
-    let secret = random_secret(rt).map_err(SecretFault::Random)?;
-    let Ok(text) = secret_to_text(alloc, secret, &[]) else {
+    let kept = KeptClients::new(alloc, random_secret(rt).map_err(SecretFault::Random)?);
+    let Ok(text) = kept.to_text(alloc) else {
         return Err(SecretFault::OutOfMemory);
     };
     match write_private(rt, alloc, path, text.as_str()) {
-        Ok(Ok(())) => Ok(KeptClients::new(alloc, secret)),
+        Ok(Ok(())) => Ok(kept),
         Ok(Err(error)) => Err(SecretFault::File(error)),
         Err(_) => Err(SecretFault::OutOfMemory),
     }

@@ -38,6 +38,14 @@ impl KeptClients {
             clients: Vec::new(alloc),
         }
     }
+
+    /// The text of the file that holds them.
+    pub fn to_text(&self, alloc: Global) -> Result<String, AllocError>
+        ensures { IfOk result
+            (λ t. string_bytes t ≡ kept_text self.now.secret self.now.clients.items) }
+    {
+        secret_to_text(alloc, self.secret, &self.clients)
+    }
 }
 
 /// What the text of a file says.
