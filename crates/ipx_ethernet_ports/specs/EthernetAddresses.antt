@@ -11,6 +11,7 @@ use Rattle.std.specs.declared.net.socket_addr.SocketAddrV4.{SocketAddrV4}
 use Rattle.ipx_carrier.specs.declared.fault.DeviceFault.{DeviceFault}
 use Rattle.ipx_carrier.specs.declared.placed_socket.PlacedSocket.{PlacedSocket}
 use Rattle.ipx_carrier.specs.ReadySet.{IsFilteredOrAnswer, is_come, is_port_marked, marks_after}
+use Rattle.ipx_carrier.specs.SocketEvents.{SocketEvent}
 use Rattle.ipx_carrier.specs.Traces.{Got, TriesToReceive, raw_fd_of, refused_to, sent_to}
 use Rattle.ipx_ethernet_ports.specs.declared.end_sockets.FrameCame.{FrameCame}
 use Rattle.ipx_ethernet_ports.specs.declared.sockets.EthernetSocket.{EthernetSocket}
@@ -36,6 +37,10 @@ remote_places ethernet = map (λ w. w.ends.items) ethernet
 -- where each is bound
 abbrev pub bound_places : List EthernetSocket → List SocketAddrV4
 bound_places ethernet = map (λ w. w.socket.at) ethernet
+
+-- what the socket of each was asked, by its trace
+abbrev pub ethernet_events : List EthernetSocket → List (List SocketEvent)
+ethernet_events ethernet = map (λ w. w.socket.events.items) ethernet
 
 -- the descriptor of the socket of each
 abbrev pub ethernet_fds : List EthernetSocket → List ℤ

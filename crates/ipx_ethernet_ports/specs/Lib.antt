@@ -1,4 +1,5 @@
 pub mod EndTraffic
 pub mod OnEthernet
+pub mod EthernetCalls
 pub mod EthernetAddresses
 pub mod MemoryTraffic

@@ -1,10 +1,12 @@
 //! Ethernet ports.
 
-ghost use Rattle.std.specs.Prelude.{◌≡◌, ◌<◌, ◌≤◌, ◌+◌, ◌^◌, [], Option, None, IfOk, IfSome, OnErr, is_some, length, map, min, slice_index, slice_set, true};
+ghost use Rattle.std.specs.Prelude.{◌≡◌, ◌<◌, ◌≤◌, ◌+◌, ◌^◌, [], Option, None, IfOk, IfSome, OnErr, OnOk, is_some, length, map, min, slice_index, slice_set, true};
+ghost use Rattle.ipx_carrier.specs.Device.{received_in};
 ghost use Rattle.ipx_carrier.specs.PortDrivers.{copies_count, count_in};
 ghost use Rattle.ipx_carrier.specs.Readiness.{AsksPortWithMark, MarksStay};
 ghost use Rattle.ipx_ethernet_ports.specs.EndTraffic.{EndFrame, frame_at};
-ghost use Rattle.ipx_ethernet_ports.specs.OnEthernet.{AreAskedForFrame, HearsAnswerOf, HearsAtEthernet, SendsPacket, by_frames, ethernet_ports_view};
+ghost use Rattle.ipx_ethernet_ports.specs.EthernetCalls.{ReceivesByEthernet, SendsByEthernet};
+ghost use Rattle.ipx_ethernet_ports.specs.OnEthernet.{HearsAnswerOf, HearsAtEthernet, SendsPacket, by_frames, ethernet_ports_view};
 
 use crate::end_sockets::EndSockets;
 use crate::reaching::send_to_ends;
@@ -174,9 +176,9 @@ impl<D: EndSockets + Drop> PortDriver for EthernetPorts<D> {
 
     ghost marked = { λ w. D.marked w.sockets };
 
-    ghost receives = { λ s port size answer t. Unit {0} };
+    ghost receives = { ReceivesByEthernet D.ends_of D.traffic D.failed D.asks };
 
-    ghost sends = { λ s packet t. Unit {0} };
+    ghost sends = { SendsByEthernet D.ends_of D.traffic D.failed };
 
     fn ports(&self) -> usize {
         self.switches.len().min(self.sockets.ports())
@@ -197,6 +199,8 @@ impl<D: EndSockets + Drop> PortDriver for EthernetPorts<D> {
             (D.traffic self.old.sockets) (D.failed self.old.sockets))
             (ethernet_ports_view self.new.switches.items self.new.kept
             (D.traffic self.new.sockets) (D.failed self.new.sockets))) }
+        ensures sends { OnOk result (SendsByEthernet D.ends_of D.traffic D.failed self.old
+            (record { port = port; node = node; bytes = packet.now }) self.new) }
         ensures goes_on { OnErr result ⊥ }
         ensures count { IfOk result (λ sent. count_in sent
             ≡ copies_count (by_frames (map (λ h. h.port) self.old.switches.items))
@@ -217,14 +221,8 @@ impl<D: EndSockets + Drop> PortDriver for EthernetPorts<D> {
         requires there { port < min (length self.old.switches.items)
             (length (D.ends_of self.old.sockets)) }
         // The sockets were asked at the port, and what they answered is heard.
-        ensures asked { IfOk result (λ up. (came : Option EndFrame)
-            × AreAskedForFrame D.asks port self.old.sockets came self.new.sockets
-            × HearsAnswerOf (slice_index (D.ends_of self.old.sockets) port) self.old.moment
-            (length room.old) came room.new up
-            (ethernet_ports_view self.old.switches.items self.old.kept
-            (D.traffic self.old.sockets) (D.failed self.old.sockets))
-            (ethernet_ports_view self.new.switches.items self.new.kept
-            (D.traffic self.new.sockets) (D.failed self.new.sockets))) }
+        ensures receives { IfOk result (λ up. ReceivesByEthernet D.ends_of D.traffic D.failed D.asks
+            self.old port (length room.old) (received_in room.new up) self.new) }
         // A frame came from a remote and was forwarded, or none came, or the sockets failed.
         ensures received { IfOk result (λ up. (came : Option EndFrame)
             × IfSome came (λ frame. frame.port ≡ port)

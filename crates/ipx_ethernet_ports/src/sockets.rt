@@ -7,7 +7,7 @@ ghost use Rattle.ipx_carrier.specs.Readiness.{AsksPortWithMark};
 ghost use Rattle.ipx_carrier.specs.ReadySet.{is_port_marked};
 ghost use Rattle.ipx_carrier.specs.Traces.{Got, TriesToReceive, refused_to, sent_to};
 ghost use Rattle.ipx_ethernet_ports.specs.EndTraffic.{failures_counted};
-ghost use Rattle.ipx_ethernet_ports.specs.EthernetAddresses.{AsksMarkedPort, RefusesFrame, SendsFrame, bound_places, end_at_place, ethernet_fds, is_place, place_of_sender, remote_counts, remote_places, with_remote};
+ghost use Rattle.ipx_ethernet_ports.specs.EthernetAddresses.{AsksMarkedPort, RefusesFrame, SendsFrame, bound_places, end_at_place, ethernet_events, ethernet_fds, is_place, place_of_sender, remote_counts, remote_places, with_remote};
 
 use crate::end_sockets::{EndSockets, FrameCame};
 use ipx_carrier::{DeviceFault, PlacedSocket, ReadySet, saturating_increment};
@@ -146,6 +146,9 @@ impl EthernetSockets {
             ≡ remote_counts self.old.ethernet.items ++ length ends.items ∷ []) }
         ensures places { OnOk result (remote_places self.new.ethernet.items
             ≡ remote_places self.old.ethernet.items ++ ends.items ∷ []) }
+        // The new socket was asked nothing, and the others were asked nothing more.
+        ensures fresh { OnOk result (ethernet_events self.new.ethernet.items
+            ≡ ethernet_events self.old.ethernet.items ++ [] ∷ []) }
         ensures marks { OnOk result (self.new.marks ≡ self.old.marks ++ true ∷ []) }
         ensures refused { OnErr result ((self.new.ethernet.items ≡ self.old.ethernet.items)
             × (self.new.marks ≡ self.old.marks)) }

@@ -1,4 +1,5 @@
 pub mod PlaceTraffic
 pub mod OnServers
+pub mod ServerCalls
 pub mod ServerAddresses
 pub mod PlacesMemory

@@ -12,6 +12,7 @@ use Rattle.ip_prefixes.specs.declared.prefix.Prefix.{Prefix}
 use Rattle.ipx_carrier.specs.declared.fault.DeviceFault.{DeviceFault}
 use Rattle.ipx_carrier.specs.declared.placed_socket.PlacedSocket.{PlacedSocket}
 use Rattle.ipx_carrier.specs.ReadySet.{IsFilteredOrAnswer, is_come, is_port_marked, marks_after}
+use Rattle.ipx_carrier.specs.SocketEvents.{SocketEvent}
 use Rattle.ipx_carrier.specs.Traces.{Got, TriesToReceive, raw_fd_of, refused_to, sent_to}
 use Rattle.ipx_ipxnet_ports.specs.declared.allow.Allow.{Allow}
 use Rattle.ipx_ipxnet_ports.specs.declared.allow.Allow.TheVariants as Allowed
@@ -45,6 +46,10 @@ ipv4_of_place (V6 a) = None
 -- where each socket is bound
 abbrev pub bound_places : List ServerSocket → List SocketAddrV4
 bound_places sockets = map (λ s. s.socket.at) sockets
+
+-- what each was asked, by its trace
+abbrev pub server_events : List ServerSocket → List (List SocketEvent)
+server_events sockets = map (λ s. s.socket.events.items) sockets
 
 -- the descriptor of each
 abbrev pub server_fds : List ServerSocket → List ℤ

@@ -1,10 +1,12 @@
 //! Ports with ipxnet servers.
 
-ghost use Rattle.std.specs.Prelude.{◌≡◌, ◌<◌, ◌≤◌, ◌+◌, ◌^◌, [], Option, None, IfOk, IfSome, OnErr, is_some, length, min, slice_set, true};
+ghost use Rattle.std.specs.Prelude.{◌≡◌, ◌<◌, ◌≤◌, ◌+◌, ◌^◌, [], Option, None, IfOk, IfSome, OnErr, OnOk, is_some, length, min, slice_set, true};
+ghost use Rattle.ipx_carrier.specs.Device.{received_in};
 ghost use Rattle.ipx_carrier.specs.PortDrivers.{copies_count, count_in};
 ghost use Rattle.ipx_carrier.specs.Readiness.{AsksPortWithMark, MarksStay};
-ghost use Rattle.ipx_ipxnet_ports.specs.OnServers.{AreAskedForDatagram, HearsAtServer, PingsAtServer, PingsAtServers, ReceivesAtServer, SendsThroughServer, by_servers, is_any_pinged, servers_view, server_ports, packet_said};
+ghost use Rattle.ipx_ipxnet_ports.specs.OnServers.{HearsAtServer, PingsAtServer, PingsAtServers, ReceivesAtServer, SendsThroughServer, by_servers, is_any_pinged, servers_view, server_ports, packet_said};
 ghost use Rattle.ipx_ipxnet_ports.specs.PlaceTraffic.{PlaceDatagram, place_datagram};
+ghost use Rattle.ipx_ipxnet_ports.specs.ServerCalls.{ReceivesByServers, SendsByServers};
 ghost use Rattle.ipxnet_server.specs.Pings.{IsNextPing};
 
 use crate::front::put_front;
@@ -252,9 +254,9 @@ impl<D: PlaceSockets + Drop> PortDriver for Servers<D> {
 
     ghost marked = { λ l. D.marked l.sockets };
 
-    ghost receives = { λ s port size answer t. Unit {0} };
+    ghost receives = { ReceivesByServers D.traffic D.failed D.asks };
 
-    ghost sends = { λ s packet t. Unit {0} };
+    ghost sends = { SendsByServers D.traffic D.failed };
 
     fn ports(&self) -> usize {
         self.servers.len().min(self.sockets.ports())
@@ -274,6 +276,8 @@ impl<D: PlaceSockets + Drop> PortDriver for Servers<D> {
             (D.traffic self.old.sockets) (D.failed self.old.sockets))
             (servers_view self.new.servers.items self.new.kept
             (D.traffic self.new.sockets) (D.failed self.new.sockets))) }
+        ensures sends { OnOk result (SendsByServers D.traffic D.failed self.old
+            (record { port = port; node = node; bytes = packet.now }) self.new) }
         ensures goes_on { OnErr result ⊥ }
         ensures count { IfOk result (λ sent. count_in sent ≡ copies_count by_servers
             (record { port = port; node = node; bytes = packet.now })) }
@@ -292,13 +296,8 @@ impl<D: PlaceSockets + Drop> PortDriver for Servers<D> {
         requires there { port < min (length self.old.servers.items)
             (D.port_count self.old.sockets) }
         // The sockets were asked at the port, and what they answered is received.
-        ensures asked { IfOk result (λ up. (came : Option PlaceDatagram)
-            × AreAskedForDatagram D.asks port self.old.sockets came self.new.sockets
-            × ReceivesAtServer self.old.moment (length room.old) came room.new up
-            (servers_view self.old.servers.items self.old.kept
-            (D.traffic self.old.sockets) (D.failed self.old.sockets))
-            (servers_view self.new.servers.items self.new.kept
-            (D.traffic self.new.sockets) (D.failed self.new.sockets))) }
+        ensures receives { IfOk result (λ up. ReceivesByServers D.traffic D.failed D.asks
+            self.old port (length room.old) (received_in room.new up) self.new) }
         // A datagram came from an address and the server received it, or none came, or the sockets
         // failed.
         ensures received { IfOk result (λ up. (came : Option PlaceDatagram)

@@ -8,7 +8,7 @@ ghost use Rattle.ipx_carrier.specs.Counting.{raised};
 ghost use Rattle.ipx_carrier.specs.Readiness.{AsksPortWithMark};
 ghost use Rattle.ipx_carrier.specs.ReadySet.{is_port_marked};
 ghost use Rattle.ipx_carrier.specs.Traces.{Got, TriesToReceive};
-ghost use Rattle.ipx_ipxnet_ports.specs.ServerAddresses.{AsksMarkedPort, RefusesToPlace, SendsToPlace, bound_places, prefixes_heard, ipv4_of_place, is_ip_heard, listed_prefixes, place_heard, server_fds, with_place};
+ghost use Rattle.ipx_ipxnet_ports.specs.ServerAddresses.{AsksMarkedPort, RefusesToPlace, SendsToPlace, bound_places, prefixes_heard, ipv4_of_place, is_ip_heard, listed_prefixes, place_heard, server_events, server_fds, with_place};
 ghost use Rattle.ipx_ipxnet_ports.specs.PlaceTraffic.{failures_with};
 
 use crate::allow::Allow;
@@ -120,6 +120,9 @@ impl ServerSockets {
             ≡ bound_places self.old.sockets.items ++ at ∷ []) }
         ensures bound { OnOk result (map prefixes_heard self.new.sockets.items
             ≡ map prefixes_heard self.old.sockets.items ++ listed_prefixes allow ∷ []) }
+        // The new socket was asked nothing, and the others were asked nothing more.
+        ensures fresh { OnOk result (server_events self.new.sockets.items
+            ≡ server_events self.old.sockets.items ++ [] ∷ []) }
         ensures marks { OnOk result (self.new.marks ≡ self.old.marks ++ true ∷ []) }
         ensures refused { OnErr result ((self.new.sockets.items ≡ self.old.sockets.items)
             × (self.new.marks ≡ self.old.marks)) }

@@ -1,3 +1,4 @@
+pub mod AskedSockets
 pub mod Watching
 pub mod KeptSums
 pub mod OneDue

@@ -5,4 +5,5 @@ pub mod AccessLists
 pub mod PortFilterDrops
 pub mod Moments
 pub mod Senders
+pub mod SocketCalls
 pub mod Polling

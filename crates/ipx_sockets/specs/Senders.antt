@@ -2,9 +2,14 @@
 -- Defined by this project: a sender over IPv6 has no node.
 use Rattle.std.specs.Prelude.{◌≡◌, ℕ, ℤ, List, Option, Some, None, Ok, Err, IfSome, map, slice_get, slice_set}
 use Rattle.ipx_carrier.specs.declared.placed_socket.PlacedSocket.{PlacedSocket}
+use Rattle.ipx_carrier.specs.SocketEvents.{SocketEvent}
 use Rattle.ipx_carrier.specs.Traces.{Got, TriesToReceive, raw_fd_of, refused_to, sent_to, v4_at}
 use Rattle.ipx_ipxnet_ports.specs.ServerAddresses.{ipv4_of_place}
 use Rattle.ipx_sockets.specs.declared.sockets.PortSocket.{PortSocket}
+
+-- what each socket was asked, by its trace
+abbrev pub udp_events : List PortSocket → List (List SocketEvent)
+udp_events sockets = map (λ s. s.socket.events.items) sockets
 
 -- the descriptor of each socket
 abbrev pub udp_fds : List PortSocket → List ℤ

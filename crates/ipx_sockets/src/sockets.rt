@@ -1,11 +1,12 @@
 //! UDP sockets, one for each RFC 1234 port of a site.
 
-ghost use Rattle.std.specs.Prelude.{◌≡◌, ◌⊎◌, ◌<◌, ◌≤◌, ◌↔◌, ◌∷◌, [], IfOk, IfSome, IsSome, None, Ok, OnErr, Some, false, is_some, length, map, replicate, slice_get, slice_set, true};
+ghost use Rattle.std.specs.Prelude.{◌≡◌, ◌<◌, ◌≤◌, ◌↔◌, ◌∷◌, [], IfOk, IfSome, IsSome, None, Ok, OnErr, Some, false, is_some, length, map, replicate, slice_get, slice_set, true};
 ghost use Rattle.ipx_carrier.specs.Counting.{raised};
+ghost use Rattle.ipx_carrier.specs.Device.{received_in};
 ghost use Rattle.ipx_carrier.specs.Readiness.{AsksPortWithMark};
-ghost use Rattle.ipx_carrier.specs.ReadySet.{is_port_marked, marks_after};
-ghost use Rattle.ipx_carrier.specs.Traces.{Got, v4_at};
-ghost use Rattle.ipx_sockets.specs.Senders.{AsksForPacket, RefusesPacket, SendsPacket, sender_after, size_got, udp_fds};
+ghost use Rattle.ipx_carrier.specs.ReadySet.{is_port_marked};
+ghost use Rattle.ipx_carrier.specs.Traces.{v4_at};
+ghost use Rattle.ipx_sockets.specs.Senders.{udp_events, udp_fds};
 ghost use Rattle.ipx_config.specs.PortLists.{datagram_places, datagram_ports};
 ghost use Rattle.ipx_config.specs.SitePorts.{udp_ports};
 
@@ -54,6 +55,7 @@ pub struct UdpSockets {
 fn port_socket<R: Net>(rt: &R, ip: [u8; 4], udp_port: u16) -> io::Result<PortSocket>
     ensures udp_port { IfOk result (λ s. s.udp_port ≡ udp_port) }
     ensures at { IfOk result (λ s. s.socket.at ≡ v4_at ip udp_port) }
+    ensures fresh { IfOk result (λ s. s.socket.events.items ≡ []) }
 {
     if ip == [0; 4] {
         return Err(io::Error::from(ErrorKind::AddrNotAvailable));
@@ -76,6 +78,7 @@ fn bound_port<R: Net>(
 ) -> Result<PortSocket, BindFault>
     ensures udp_port { IfOk result (λ s. s.udp_port ≡ udp_port) }
     ensures at { IfOk result (λ s. s.socket.at ≡ v4_at ip udp_port) }
+    ensures fresh { IfOk result (λ s. s.socket.events.items ≡ []) }
 {
     match port_socket(rt, ip, udp_port) {
         Ok(socket) => Ok(socket),
@@ -122,6 +125,9 @@ impl UdpSockets {
             ≡ udp_ports (datagram_ports ports.now)) }
         ensures at { IfOk result (λ d. map (λ s. s.socket.at) d.sockets.items
             ≡ datagram_places (datagram_ports ports.now)) }
+        // No socket was asked anything yet.
+        ensures fresh { IfOk result (λ d. udp_events d.sockets.items
+            ≡ map (λ p. []) (datagram_ports ports.now)) }
         ensures marks { IfOk result (λ d. d.marks ≡ replicate (length d.sockets.items) true) }
     {
         let mut sockets = Vec::new(alloc);
@@ -146,6 +152,8 @@ impl UdpSockets {
         ensures ports { IfOk result (λ d. map (λ s. s.udp_port) d.sockets.items ≡ udp_port ∷ []) }
         ensures at { IfOk result (λ d.
             map (λ s. s.socket.at) d.sockets.items ≡ v4_at address udp_port ∷ []) }
+        // Its socket was asked nothing yet.
+        ensures fresh { IfOk result (λ d. udp_events d.sockets.items ≡ [] ∷ []) }
         ensures marks { IfOk result (λ d. d.marks ≡ true ∷ []) }
     {
         let socket = bound_port(rt, 1, address, udp_port)?;
@@ -223,6 +231,8 @@ impl UdpSockets {
 }
 
 impl Datagrams for UdpSockets {
+    ghost use Rattle.ipx_sockets.specs.SocketCalls.{ReceivesPacket, SendsDatagram};
+
     ghost port_count = { λ d. length d.sockets.items };
 
     ghost failed = { λ d. 0 };
@@ -241,9 +251,9 @@ impl Datagrams for UdpSockets {
 
     ghost marked = { λ d. is_port_marked d.marks };
 
-    ghost receives = { λ s port size answer t. Unit {0} };
+    ghost receives = { ReceivesPacket };
 
-    ghost sends = { λ s packet t. Unit {0} };
+    ghost sends = { SendsDatagram };
 
     fn ports(&self) -> usize {
         self.sockets.len()
@@ -257,11 +267,8 @@ impl Datagrams for UdpSockets {
         requires there { port < length self.old.sockets.items }
         // The port's socket was asked to send it to that IP address, at the UDP port of the port's
         // peers. The system took it or refused it, and that is counted.
-        ensures counted { ((self.new.sent ≡ raised self.old.sent)
-            × (self.new.faults ≡ self.old.faults)
-            × SendsPacket port to bytes.now self.old.sockets.items self.new.sockets.items)
-            ⊎ ((self.new.sent ≡ self.old.sent) × (self.new.faults ≡ raised self.old.faults)
-            × RefusesPacket port to bytes.now self.old.sockets.items self.new.sockets.items) }
+        ensures sends { SendsDatagram self.old
+            (record { port = port; to = to; bytes = bytes.now }) self.new }
         ensures ports { length self.new.sockets.items ≡ length self.old.sockets.items }
         ensures marks { self.new.marks ≡ self.old.marks }
         ensures goes_on { OnErr result ⊥ }
@@ -282,15 +289,11 @@ impl Datagrams for UdpSockets {
         // The socket of a marked port is asked until something comes or nothing waits, at most
         // eight times. Each failure is counted. The mark is cleared exactly if nothing waits. The
         // last sender is that of what came.
-        ensures marked { is_port_marked self.old.marks port ≡ true → IfOk result (λ count.
-            (got : Got) × AsksForPacket port got room.new self.old.sockets.items
-            self.new.sockets.items self.old.faults self.new.faults
-            × (self.new.marks ≡ marks_after port got self.old.marks)
-            × (count ≡ size_got got) × (self.new.sender ≡ sender_after got self.old.sender)) }
+        ensures receives { IfOk result (λ count. ReceivesPacket self.old port (length room.old)
+            (received_in room.new count) self.new) }
         ensures marks { IfOk result (λ count. AsksPortWithMark port (is_some count)
             (is_port_marked self.old.marks) (is_port_marked self.new.marks)) }
         ensures ports { length self.new.sockets.items ≡ length self.old.sockets.items }
-        ensures sent { self.new.sent ≡ self.old.sent }
         ensures faults { self.old.faults ≤ self.new.faults }
         ensures within { IfOk result (λ count. IfSome count (λ n. n ≤ length room.old)) }
         ensures goes_on { OnErr result ⊥ }

@@ -9,6 +9,7 @@ ghost use Rattle.ipx_carrier.specs.RunFaultNumbers.{device_failures};
 ghost use Rattle.ipx_carrier.specs.Waits.{LeavesPort};
 ghost use Rattle.ipx_sockets.specs.PortFilterDrops.{CountsUnknownSenderAt, drops_changed_at, nothing_at_port, one_refused};
 ghost use Rattle.ipx_sockets.specs.SourceFilter.{IsVerdictOn, TakesIn, is_listed, drops_in, may_go, may_originate, zero_drops, no_filter_drops, one_more};
+ghost use Rattle.ipx_sockets.specs.SocketCalls.{ReceivesThroughFilter, SendsThroughFilter};
 ghost use Rattle.ipx_config.specs.Values.{is_peer};
 ghost use Rattle.ipx_sockets.specs.AccessLists.{access_by};
 
@@ -302,9 +303,10 @@ impl<D: Senders + Drop> Datagrams for SourceFilter<D> {
 
     ghost marked = { λ p. D.marked p.device };
 
-    ghost receives = { λ s port size answer t. Unit {0} };
+    // What the device below received is delivered if the access list accepts it.
+    ghost receives = { ReceivesThroughFilter D.receives D.last_sender };
 
-    ghost sends = { λ s packet t. Unit {0} };
+    ghost sends = { SendsThroughFilter D.sends };
 
     fn ports(&self) -> usize {
         self.device.ports()
@@ -318,6 +320,8 @@ impl<D: Senders + Drop> Datagrams for SourceFilter<D> {
         requires there { port < D.port_count self.old.device }
         requires countable { D.failed self.old.device + 1 < 2 ^ 64 }
         // A datagram that may be sent there is sent by the device below, as that says.
+        ensures sends { OnOk result (SendsThroughFilter D.sends self.old
+            (record { port = port; to = to; bytes = bytes.now }) self.new) }
         ensures sent { may_go (slice_get self.old.access_lists.items port) to ≡ true → OnOk result
             (Passes (D.traffic self.old.device) (D.traffic self.new.device)
             [] (record { port = port; to = to; bytes = bytes.now } ∷ [])) }
@@ -355,6 +359,8 @@ impl<D: Senders + Drop> Datagrams for SourceFilter<D> {
         requires there { port < D.port_count self.old.device }
         requires countable { D.failed self.old.device + 1 < 2 ^ 64 }
         // What the device below received is delivered if the access list accepts it.
+        ensures receives { IfOk result (λ up. ReceivesThroughFilter D.receives D.last_sender
+            self.old port (length room.old) (received_in room.new up) self.new) }
         ensures received { IfOk result (λ up. (came : Option ℕ)
             × Passes (D.traffic self.old.device) (D.traffic self.new.device)
             (record { port = port; bytes = received_in room.new came } ∷ []) []

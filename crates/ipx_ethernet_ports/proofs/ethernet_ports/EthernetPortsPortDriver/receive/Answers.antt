@@ -5,14 +5,19 @@ use Rattle.ipx_ethernet_ports.proofs.Asked.{asked_frame}
 use Rattle.ipx_ethernet_ports.proofs.Hubs.{hearing_leaves_ports, hears_answer}
 use Rattle.ipx_ethernet_ports.proofs.ethernet_ports.EthernetPortsPortDriver.receive.Goals as goal
 
-pub returns-clause-asked : goal.returns-clause-asked
-returns-clause-asked g c =
+pub returns-clause-receives : goal.returns-clause-receives
+returns-clause-receives g c =
     let before = g.D.EndSockets.traffic c.args.self.now.sockets in
     let behind = g.D.EndSockets.traffic c.receive.new.self in
     let first = subst (λ (o : Option FrameCame). EndsPass before behind (frames_in (came_in c.args.port c.receive.new.room o)) []) c.in-Some.is c.in-Ok.ensures.received in (
+      c.hear_frame.new.room,
+      c.hear_frame.result,
       came_in c.args.port c.receive.new.room (Some c.in-Some.came),
+      refl,
       asked_frame g.D.EndSockets.asks c.args.port c.args.self.now.sockets c.receive.new.self c.hear_frame.new.self.sockets c.receive.new.room c.receive.result c.receive.ensures.asked (search rules) c.in-Some.came (c.in-Ok.is ∙ ap Ok c.in-Some.is),
       hears_answer _ _ _ _ _ _ _ _ _ _ _ _ _ _ (ap (λ (ends : List ℕ). slice_index ends c.args.port) c.in-Ok.ensures.ends) c.in-Ok.ensures.failures first c.hear_frame.ensures.heard,
+      c.hear_frame.ensures.rest,
+      c.hear_frame.ensures.ends ∙ c.in-Ok.ensures.ends,
     )
 
 pub returns-clause-received : goal.returns-clause-received

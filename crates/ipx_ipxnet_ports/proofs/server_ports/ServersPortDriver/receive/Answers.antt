@@ -5,14 +5,18 @@ use Rattle.ipx_ipxnet_ports.proofs.Asked.{asked_datagram}
 use Rattle.ipx_ipxnet_ports.proofs.Steady.{hearing_leaves_ports, hears_after}
 use Rattle.ipx_ipxnet_ports.proofs.server_ports.ServersPortDriver.receive.Goals as goal
 
-pub returns-clause-asked : goal.returns-clause-asked
-returns-clause-asked g c =
+pub returns-clause-receives : goal.returns-clause-receives
+returns-clause-receives g c =
     let before = g.D.PlaceSockets.traffic c.args.self.now.sockets in
     let behind = g.D.PlaceSockets.traffic c.receive.new.self in
     let first = subst (λ (o : Option DatagramCame). PlacesPass before behind (place_datagrams (came_from_place c.args.port c.receive.new.room o)) []) c.in-Some.is c.in-Ok.ensures.received in (
+      c.hear_datagram.new.room,
+      c.hear_datagram.result,
       came_from_place c.args.port c.receive.new.room (Some c.in-Some.came),
+      refl,
       asked_datagram g.D.PlaceSockets.asks c.args.port c.args.self.now.sockets c.receive.new.self c.hear_datagram.new.self.sockets c.receive.new.room c.receive.result c.receive.ensures.asked (search rules) c.in-Some.came (c.in-Ok.is ∙ ap Ok c.in-Some.is),
       hears_after _ _ _ _ _ _ _ _ _ _ _ _ c.in-Ok.ensures.failures first c.hear_datagram.ensures.heard,
+      c.hear_datagram.ensures.rest,
     )
 
 pub returns-clause-received : goal.returns-clause-received
