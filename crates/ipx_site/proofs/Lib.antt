@@ -3,7 +3,7 @@ pub mod SilentNeighbours
 pub mod Ports
 pub mod Rounds
 pub mod Parts
-pub mod GuardTexts
+pub mod MetricLines
 pub mod Among
 pub mod StandingEntries
 pub mod StandingFiles

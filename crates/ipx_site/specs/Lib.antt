@@ -24,3 +24,11 @@ pub mod RoutingRuns
 pub mod IpxnetFile
 pub mod RouterMarks
 pub mod RouterPings
+pub mod MetricsText
+pub mod TotalFamilies
+pub mod PortFamilies
+pub mod NeighbourFamilies
+pub mod FrameFamilies
+pub mod IpxnetFamilies
+pub mod KindMetrics
+pub mod MetricsPage

@@ -1,7 +1,9 @@
 //! Prometheus metrics of the datagrams that access lists dropped at a router's ports.
 
 ghost use Rattle.std.specs.Prelude.{◌≡◌, ◌++◌, IfOk, OnErr, OnOk, is_some, option_map, string_bytes};
-ghost use Rattle.ipx_site.specs.AccessListMetrics.{metric_if, access_list_metrics, access_list_text, is_any_guarded, drops_at_port_index, access_list_count, refused_text, unknown_senders_text};
+ghost use Rattle.std.specs.List.{flat_map};
+ghost use Rattle.ipx_site.specs.MetricsText.{families_text, family_lines, sample_line};
+ghost use Rattle.ipx_site.specs.AccessListMetrics.{access_list_count, access_list_families, access_list_samples, at_port_if, drops_at_port_index, is_any_guarded, refused_family, unknown_senders_family};
 
 use crate::family::{Family, put_family, put_of_port};
 use crate::router_ports::PortIndex;
@@ -79,7 +81,7 @@ fn put_count(
     count: Option<u64>,
 ) -> Result<(), AllocError>
     ensures { OnOk result (string_bytes text.new
-        ≡ string_bytes text.old ++ metric_if family.now.name.now number count) }
+        ≡ string_bytes text.old ++ flat_map (sample_line family.now.name.now) (at_port_if number count)) }
 {
     match count {
         Some(count) => put_of_port(text, family, number, count),
@@ -96,7 +98,8 @@ fn put_counts(
     kept: &[PortFilterDrops],
 ) -> Result<(), AllocError>
     ensures { OnOk result (string_bytes text.new
-        ≡ string_bytes text.old ++ access_list_metrics family.now.name.now count port_indices.now kept.now) }
+        ≡ string_bytes text.old ++ flat_map (sample_line family.now.name.now)
+        (access_list_samples count port_indices.now kept.now)) }
 {
     for (place, port_index) in port_indices.iter().enumerate() {
         let here = count_at(*port_index, kept, count);
@@ -111,7 +114,7 @@ fn put_unknown_senders(
     kept: &[PortFilterDrops],
 ) -> Result<(), AllocError>
     ensures { OnOk result (string_bytes text.new
-        ≡ string_bytes text.old ++ unknown_senders_text port_indices.now kept.now) }
+        ≡ string_bytes text.old ++ family_lines (unknown_senders_family port_indices.now kept.now)) }
 {
     put_family(text, &UNKNOWN_SENDERS)?;
     put_counts(
@@ -129,7 +132,7 @@ fn put_refused(
     kept: &[PortFilterDrops],
 ) -> Result<(), AllocError>
     ensures { OnOk result (string_bytes text.new
-        ≡ string_bytes text.old ++ refused_text port_indices.now kept.now) }
+        ≡ string_bytes text.old ++ family_lines (refused_family port_indices.now kept.now)) }
 {
     put_family(text, &REFUSED)?;
     put_counts(text, &REFUSED, FilterDropKind::Refused, port_indices, kept)
@@ -141,7 +144,7 @@ fn access_lists_to_text(
     port_indices: &[PortIndex],
     kept: &[PortFilterDrops],
 ) -> Result<String, AllocError>
-    ensures { IfOk result (λ t. string_bytes t ≡ access_list_text port_indices.now kept.now) }
+    ensures { IfOk result (λ t. string_bytes t ≡ families_text (access_list_families port_indices.now kept.now)) }
 {
     let mut text = String::new(alloc);
     if !is_any_guarded(port_indices, kept) {
@@ -161,7 +164,7 @@ pub fn put_access_list_metrics(
     kept: &[PortFilterDrops],
 ) -> Result<(), AllocError>
     ensures put { OnOk result (string_bytes text.new
-        ≡ string_bytes text.old ++ access_list_text port_indices.now kept.now) }
+        ≡ string_bytes text.old ++ families_text (access_list_families port_indices.now kept.now)) }
     ensures refused { OnErr result (string_bytes text.new ≡ string_bytes text.old) }
 {
     let metrics = access_lists_to_text(alloc, port_indices, kept)?;

@@ -1,16 +1,20 @@
 //! Prometheus metrics of the frames at a router's Ethernet ports.
 
-ghost use Rattle.std.specs.Prelude.{◌≡◌};
+ghost use Rattle.std.specs.Prelude.{◌≡◌, ◌++◌, IfOk, OnOk, codes, option_map, string_bytes};
+ghost use Rattle.std.specs.List.{flat_map};
+ghost use Rattle.ipx_site.specs.FrameFamilies.{frame_families, frame_outcomes, frames_family, passed_family, unfitting_family};
+ghost use Rattle.ipx_site.specs.KindMetrics.{ethernet_ports, switch_at, switch_metrics};
+ghost use Rattle.ipx_site.specs.MetricsText.{at_port_by, families_text, family_lines, sample_line};
 
 use crate::ethernet_totals::came_in;
-use crate::family::{Family, put_family, put_of_port, put_one};
+use crate::family::{Family, put_each_of_port, put_family, put_of_port, put_one};
 use crate::router_ports::{PortIndex, UdpRouterPorts};
 use ipx_ethernet::{Encapsulation, FrameCounters, Switch};
 use ipx_ethernet_ports::EndSockets;
 use log::{Log, warn};
 use std::alloc::{AllocError, Global};
 
-/// The encapsulations, in the order in which they are written.
+/// The encapsulations, in the order in which they are logged.
 const ALL: [Encapsulation; 4] = [
     Encapsulation::Raw,
     Encapsulation::Llc,
@@ -72,7 +76,10 @@ pub struct EthernetMetrics {
 }
 
 /// The switch of an Ethernet port; None for other ports.
-fn switch_at(ports: &UdpRouterPorts, port_index: PortIndex) -> Option<&Switch> {
+fn switch_at(ports: &UdpRouterPorts, port_index: PortIndex) -> Option<&Switch>
+    ensures { option_map (λ s. s.now) result
+        ≡ switch_at ports.now.ethernet.switches.items port_index }
+{
     match port_index {
         PortIndex::Datagrams(_) | PortIndex::IpxnetServer(_) => None,
         PortIndex::Ethernet(place) => ports.ethernet().switches().get(place),
@@ -80,10 +87,7 @@ fn switch_at(ports: &UdpRouterPorts, port_index: PortIndex) -> Option<&Switch> {
 }
 
 fn metrics_of(number: usize, switch: &Switch) -> EthernetPortMetrics
-    ensures number { result.number ≡ number }
-    ensures frames { result.frames ≡ switch.now.counts }
-    ensures passed { result.passed ≡ switch.now.passed }
-    ensures refused { result.refused ≡ switch.now.refused }
+    ensures { result ≡ switch_metrics number switch.now }
 {
     EthernetPortMetrics {
         number,
@@ -93,15 +97,34 @@ fn metrics_of(number: usize, switch: &Switch) -> EthernetPortMetrics
     }
 }
 
+/// What the port with this number counts, if it is an Ethernet port.
+fn metrics_at(
+    ports: &UdpRouterPorts,
+    number: usize,
+    port_index: PortIndex,
+) -> Option<EthernetPortMetrics>
+    ensures { result ≡ option_map (switch_metrics number)
+        (switch_at ports.now.ethernet.switches.items port_index) }
+{
+    let switch = switch_at(ports, port_index)?;
+    Some(metrics_of(number, switch))
+}
+
 /// What a router counts at its Ethernet ports, in their order.
 pub fn ethernet_metrics(
     alloc: Global,
     ports: &UdpRouterPorts,
-) -> Result<EthernetMetrics, AllocError> {
+) -> Result<EthernetMetrics, AllocError>
+    ensures ports { IfOk result (λ m. m.ports.items
+        ≡ ethernet_ports ports.now.ethernet.switches.items ports.now.port_indices.items) }
+    ensures unknown_senders { IfOk result (λ m.
+        m.unknown_senders ≡ ports.now.ethernet.sockets.unknown_senders) }
+    ensures sent { IfOk result (λ m. m.sent ≡ ports.now.ethernet.sockets.sent) }
+{
     let mut metrics = Vec::new(alloc);
     for (place, port_index) in ports.port_indices().iter().enumerate() {
-        if let Some(switch) = switch_at(ports, *port_index) {
-            metrics.push(metrics_of(place + 1, switch))?;
+        if let Some(here) = metrics_at(ports, place + 1, *port_index) {
+            metrics.push(here)?;
         }
     }
     let sockets = ports.ethernet().sockets();
@@ -112,7 +135,13 @@ pub fn ethernet_metrics(
     })
 }
 
-fn put_outcomes(text: &mut String, number: usize, counts: FrameCounters) -> Result<(), AllocError> {
+/// Writes the outcomes of the frames that came to the port with this number. Those with a packet in
+/// another encapsulation than the port's are counted by their own.
+fn put_outcomes(text: &mut String, number: usize, counts: FrameCounters) -> Result<(), AllocError>
+    ensures { OnOk result (string_bytes text.new ≡ string_bytes text.old
+        ++ flat_map (sample_line (codes "ipx_frames_total"))
+        (at_port_by number (codes "outcome") (frame_outcomes counts))) }
+{
     let metrics = [
         ("handed_on", counts.handed_on),
         ("broken", counts.broken),
@@ -123,43 +152,31 @@ fn put_outcomes(text: &mut String, number: usize, counts: FrameCounters) -> Resu
         ("other_llc", counts.other_llc),
         ("no_packet", counts.no_packet),
         ("other_network", counts.other_network),
+        ("in_802.3", counts.in_raw),
+        ("in_802.2", counts.in_llc),
+        ("in_snap", counts.in_snap),
+        ("in_ethernet-ii", counts.in_ethernet_ii),
     ];
-    for (fate, count) in metrics {
-        write!(
-            text,
-            "ipx_frames_total{{port=\"{number}\",outcome=\"{fate}\"}} {count}\n"
-        )?;
-    }
-    Ok(())
-}
-
-fn put_encapsulations(
-    text: &mut String,
-    number: usize,
-    counts: FrameCounters,
-) -> Result<(), AllocError> {
-    for encapsulation in ALL {
-        let count = came_in(counts, encapsulation);
-        write!(
-            text,
-            "ipx_frames_total{{port=\"{number}\",outcome=\"in_{encapsulation}\"}} {count}\n"
-        )?;
-    }
-    Ok(())
+    put_each_of_port(text, &FRAMES, number, "outcome", &metrics)
 }
 
 /// Writes the outcomes of the frames that came to each port.
-fn put_frames(text: &mut String, ports: &[EthernetPortMetrics]) -> Result<(), AllocError> {
+fn put_frames(text: &mut String, ports: &[EthernetPortMetrics]) -> Result<(), AllocError>
+    ensures { OnOk result
+        (string_bytes text.new ≡ string_bytes text.old ++ family_lines (frames_family ports.now)) }
+{
     put_family(text, &FRAMES)?;
     for port in ports {
         put_outcomes(text, port.number, port.frames)?;
-        put_encapsulations(text, port.number, port.frames)?;
     }
     Ok(())
 }
 
 /// Writes how many frames went on from one remote to others.
-fn put_passed(text: &mut String, ports: &[EthernetPortMetrics]) -> Result<(), AllocError> {
+fn put_passed(text: &mut String, ports: &[EthernetPortMetrics]) -> Result<(), AllocError>
+    ensures { OnOk result
+        (string_bytes text.new ≡ string_bytes text.old ++ family_lines (passed_family ports.now)) }
+{
     put_family(text, &PASSED)?;
     for port in ports {
         put_of_port(text, &PASSED, port.number, port.passed)?;
@@ -168,7 +185,10 @@ fn put_passed(text: &mut String, ports: &[EthernetPortMetrics]) -> Result<(), Al
 }
 
 /// Writes how many packets of the router no frame could carry.
-fn put_refused(text: &mut String, ports: &[EthernetPortMetrics]) -> Result<(), AllocError> {
+fn put_refused(text: &mut String, ports: &[EthernetPortMetrics]) -> Result<(), AllocError>
+    ensures { OnOk result
+        (string_bytes text.new ≡ string_bytes text.old ++ family_lines (unfitting_family ports.now)) }
+{
     put_family(text, &REFUSED)?;
     for port in ports {
         put_of_port(text, &REFUSED, port.number, port.refused)?;
@@ -177,7 +197,10 @@ fn put_refused(text: &mut String, ports: &[EthernetPortMetrics]) -> Result<(), A
 }
 
 /// Writes what a router counts at its Ethernet ports after its other metrics; nothing if it has none.
-pub fn put_frame_metrics(text: &mut String, metrics: &EthernetMetrics) -> Result<(), AllocError> {
+pub fn put_frame_metrics(text: &mut String, metrics: &EthernetMetrics) -> Result<(), AllocError>
+    ensures { OnOk result (string_bytes text.new
+        ≡ string_bytes text.old ++ families_text (frame_families metrics.now)) }
+{
     if metrics.ports.is_empty() {
         return Ok(());
     }

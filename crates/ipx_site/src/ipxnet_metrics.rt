@@ -1,8 +1,12 @@
 //! Prometheus metrics of a router's ipxnet ports.
 
-ghost use Rattle.std.specs.Prelude.{◌≡◌, length};
+ghost use Rattle.std.specs.Prelude.{◌≡◌, ◌++◌, IfOk, OnOk, codes, option_map, string_bytes};
+ghost use Rattle.std.specs.List.{flat_map};
+ghost use Rattle.ipx_site.specs.IpxnetFamilies.{clients_family, ipxnet_families, server_drops, servers_dropped_family};
+ghost use Rattle.ipx_site.specs.KindMetrics.{ipxnet_ports, server_at, server_metrics};
+ghost use Rattle.ipx_site.specs.MetricsText.{at_port_by, families_text, family_lines, sample_line};
 
-use crate::family::{Family, put_family, put_of_port, put_one};
+use crate::family::{Family, put_each_of_port, put_family, put_of_port, put_one};
 use crate::router_ports::{PortIndex, UdpRouterPorts};
 use ipx_ipxnet_ports::PlaceSockets;
 use ipxnet_server::{IpxnetServer, ServerCounts};
@@ -54,7 +58,10 @@ pub struct IpxnetMetrics {
 }
 
 /// The ipxnet server of a port, if it has one.
-fn server_at(ports: &UdpRouterPorts, port_index: PortIndex) -> Option<&IpxnetServer> {
+fn server_at(ports: &UdpRouterPorts, port_index: PortIndex) -> Option<&IpxnetServer>
+    ensures { option_map (λ s. s.now) result
+        ≡ server_at ports.now.servers.servers.items port_index }
+{
     match port_index {
         PortIndex::Datagrams(_) | PortIndex::Ethernet(_) => None,
         PortIndex::IpxnetServer(place) => ports.servers().servers().get(place),
@@ -62,9 +69,7 @@ fn server_at(ports: &UdpRouterPorts, port_index: PortIndex) -> Option<&IpxnetSer
 }
 
 fn metrics_of(number: usize, server: &IpxnetServer) -> IpxnetPortMetrics
-    ensures number { result.number ≡ number }
-    ensures clients { result.clients ≡ length server.now.clients }
-    ensures drops { result.drops ≡ server.now.counts }
+    ensures { result ≡ server_metrics number server.now }
 {
     IpxnetPortMetrics {
         number,
@@ -73,12 +78,31 @@ fn metrics_of(number: usize, server: &IpxnetServer) -> IpxnetPortMetrics
     }
 }
 
+/// What the port with this number counts, if it is a port for ipxnet.
+fn metrics_at(
+    ports: &UdpRouterPorts,
+    number: usize,
+    port_index: PortIndex,
+) -> Option<IpxnetPortMetrics>
+    ensures { result ≡ option_map (server_metrics number)
+        (server_at ports.now.servers.servers.items port_index) }
+{
+    let server = server_at(ports, port_index)?;
+    Some(metrics_of(number, server))
+}
+
 /// What a router counts at its ports for ipxnet, in their order.
-pub fn ipxnet_metrics(alloc: Global, ports: &UdpRouterPorts) -> Result<IpxnetMetrics, AllocError> {
+pub fn ipxnet_metrics(alloc: Global, ports: &UdpRouterPorts) -> Result<IpxnetMetrics, AllocError>
+    ensures ports { IfOk result (λ m. m.ports.items
+        ≡ ipxnet_ports ports.now.servers.servers.items ports.now.port_indices.items) }
+    ensures unknown_senders { IfOk result (λ m.
+        m.unknown_senders ≡ ports.now.servers.sockets.nowhere) }
+    ensures sent { IfOk result (λ m. m.sent ≡ ports.now.servers.sockets.sent) }
+{
     let mut metrics = Vec::new(alloc);
     for (place, port_index) in ports.port_indices().iter().enumerate() {
-        if let Some(server) = server_at(ports, *port_index) {
-            metrics.push(metrics_of(place + 1, server))?;
+        if let Some(here) = metrics_at(ports, place + 1, *port_index) {
+            metrics.push(here)?;
         }
     }
     let sockets = ports.servers().sockets();
@@ -90,7 +114,11 @@ pub fn ipxnet_metrics(alloc: Global, ports: &UdpRouterPorts) -> Result<IpxnetMet
 }
 
 /// Writes what was dropped at the port with this number, by reason.
-pub fn put_drops(text: &mut String, number: usize, counts: ServerCounts) -> Result<(), AllocError> {
+pub fn put_drops(text: &mut String, number: usize, counts: ServerCounts) -> Result<(), AllocError>
+    ensures { OnOk result (string_bytes text.new ≡ string_bytes text.old
+        ++ flat_map (sample_line (codes "ipx_ipxnet_dropped_total"))
+        (at_port_by number (codes "reason") (server_drops counts))) }
+{
     let metrics = [
         ("malformed", counts.malformed),
         ("node_taken", counts.node_taken),
@@ -110,17 +138,14 @@ pub fn put_drops(text: &mut String, number: usize, counts: ServerCounts) -> Resu
         ("rate_limited", counts.rate_limited),
         ("busy", counts.busy),
     ];
-    for (reason, count) in metrics {
-        write!(
-            text,
-            "ipx_ipxnet_dropped_total{{port=\"{number}\",reason=\"{reason}\"}} {count}\n"
-        )?;
-    }
-    Ok(())
+    put_each_of_port(text, &DROPPED, number, "reason", &metrics)
 }
 
 /// Writes how many clients each port has.
-fn put_clients(text: &mut String, ports: &[IpxnetPortMetrics]) -> Result<(), AllocError> {
+fn put_clients(text: &mut String, ports: &[IpxnetPortMetrics]) -> Result<(), AllocError>
+    ensures { OnOk result
+        (string_bytes text.new ≡ string_bytes text.old ++ family_lines (clients_family ports.now)) }
+{
     put_family(text, &CLIENTS)?;
     for port in ports {
         put_of_port(text, &CLIENTS, port.number, port.clients)?;
@@ -129,7 +154,10 @@ fn put_clients(text: &mut String, ports: &[IpxnetPortMetrics]) -> Result<(), All
 }
 
 /// Writes what each port dropped.
-fn put_dropped(text: &mut String, ports: &[IpxnetPortMetrics]) -> Result<(), AllocError> {
+fn put_dropped(text: &mut String, ports: &[IpxnetPortMetrics]) -> Result<(), AllocError>
+    ensures { OnOk result (string_bytes text.new
+        ≡ string_bytes text.old ++ family_lines (servers_dropped_family ports.now)) }
+{
     put_family(text, &DROPPED)?;
     for port in ports {
         put_drops(text, port.number, port.drops)?;
@@ -138,7 +166,10 @@ fn put_dropped(text: &mut String, ports: &[IpxnetPortMetrics]) -> Result<(), All
 }
 
 /// Writes the metrics of a router's ipxnet ports after its other metrics; nothing if it has none.
-pub fn put_ipxnet_metrics(text: &mut String, metrics: &IpxnetMetrics) -> Result<(), AllocError> {
+pub fn put_ipxnet_metrics(text: &mut String, metrics: &IpxnetMetrics) -> Result<(), AllocError>
+    ensures { OnOk result (string_bytes text.new
+        ≡ string_bytes text.old ++ families_text (ipxnet_families metrics.now)) }
+{
     if metrics.ports.is_empty() {
         return Ok(());
     }

@@ -1,4 +1,9 @@
 //! Prometheus metrics of a router.
+
+ghost use Rattle.std.specs.Prelude.{◌≡◌, ◌++◌, IfOk, OnOk, string_bytes};
+ghost use Rattle.ipx_site.specs.MetricsText.{families_text, family_lines};
+ghost use Rattle.ipx_site.specs.TotalFamilies.{dropped_family, faults_family, filtered_family, outcomes_family, total_families};
+
 use crate::family::{Family, put_each, put_one};
 use ipx_carrier::OutcomeCounters;
 use ipx_rate_limits::DirectedDrops;
@@ -141,7 +146,10 @@ const SECONDS: Family = Family {
     kind: "gauge",
 };
 
-fn put_outcomes(text: &mut String, outcomes: &OutcomeCounters) -> Result<(), AllocError> {
+fn put_outcomes(text: &mut String, outcomes: &OutcomeCounters) -> Result<(), AllocError>
+    ensures { OnOk result
+        (string_bytes text.new ≡ string_bytes text.old ++ family_lines (outcomes_family outcomes.now)) }
+{
     let metrics = [
         ("forwarded", outcomes.forwarded),
         ("answered", outcomes.answered),
@@ -150,7 +158,10 @@ fn put_outcomes(text: &mut String, outcomes: &OutcomeCounters) -> Result<(), All
     put_each(text, &OUTCOMES, "outcome", &metrics)
 }
 
-fn put_dropped(text: &mut String, metrics: &Metrics) -> Result<(), AllocError> {
+fn put_dropped(text: &mut String, metrics: &Metrics) -> Result<(), AllocError>
+    ensures { OnOk result
+        (string_bytes text.new ≡ string_bytes text.old ++ family_lines (dropped_family metrics.now)) }
+{
     let outcomes = metrics.outcomes;
     let metrics = [
         ("bad", outcomes.bad),
@@ -166,7 +177,10 @@ fn put_dropped(text: &mut String, metrics: &Metrics) -> Result<(), AllocError> {
     put_each(text, &DROPPED, "reason", &metrics)
 }
 
-fn put_filtered(text: &mut String, metrics: &Metrics) -> Result<(), AllocError> {
+fn put_filtered(text: &mut String, metrics: &Metrics) -> Result<(), AllocError>
+    ensures { OnOk result
+        (string_bytes text.new ≡ string_bytes text.old ++ family_lines (filtered_family metrics.now)) }
+{
     let drops = metrics.source_drops;
     let metrics = [
         ("spoofed_source", metrics.kept.spoofed.count),
@@ -180,7 +194,10 @@ fn put_filtered(text: &mut String, metrics: &Metrics) -> Result<(), AllocError> 
     put_each(text, &FILTERED, "reason", &metrics)
 }
 
-fn put_faults(text: &mut String, metrics: &Metrics) -> Result<(), AllocError> {
+fn put_faults(text: &mut String, metrics: &Metrics) -> Result<(), AllocError>
+    ensures { OnOk result
+        (string_bytes text.new ≡ string_bytes text.old ++ family_lines (faults_family metrics.now)) }
+{
     let metrics = [
         ("device", metrics.device_faults),
         ("memory", metrics.memory_faults),
@@ -191,7 +208,9 @@ fn put_faults(text: &mut String, metrics: &Metrics) -> Result<(), AllocError> {
 
 impl Metrics {
     /// These metrics in the Prometheus text format.
-    pub fn text(&self, alloc: Global) -> Result<String, AllocError> {
+    pub fn text(&self, alloc: Global) -> Result<String, AllocError>
+        ensures { IfOk result (λ t. string_bytes t ≡ families_text (total_families self.now)) }
+    {
         let mut text = String::new(alloc);
         put_one(&mut text, &HEARD, self.heard)?;
         put_one(&mut text, &SENT, self.sent)?;

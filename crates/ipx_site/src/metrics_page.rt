@@ -1,5 +1,8 @@
 //! All metrics of a router, as a text for Prometheus.
 
+ghost use Rattle.std.specs.Prelude.{IfOk, string_bytes};
+ghost use Rattle.ipx_site.specs.MetricsPage.{IsMetricsPage};
+
 use crate::access_list_metrics::put_access_list_metrics;
 use crate::frame_metrics::{EthernetMetrics, put_frame_metrics};
 use crate::ipxnet_metrics::{IpxnetMetrics, put_ipxnet_metrics};
@@ -32,9 +35,20 @@ pub struct MetricsPage<'a> {
 
 impl<'a> MetricsPage<'a> {
     /// The text of the metrics file.
-    pub fn text(&self, alloc: Global) -> Result<String, AllocError> {
+    pub fn text(&self, alloc: Global) -> Result<String, AllocError>
+        ensures { IfOk result (λ t. IsMetricsPage (record {
+          totals = self.entry.now.totals;
+          router = self.entry.now.router.now;
+          now = self.entry.now.now;
+          counters = self.entry.now.counters.now;
+          port_indices = self.entry.now.port_indices.now;
+          filtered = self.entry.now.filtered.now;
+          ethernet = self.entry.now.ethernet.now;
+          ipxnet = self.entry.now.ipxnet.now;
+        }) (string_bytes t)) }
+    {
         let mut text = self.totals.text(alloc)?;
-        put_port_metrics(&mut text, self.router.ports(), self.counters)?;
+        put_port_metrics(&mut text, alloc, self.router.ports(), self.counters)?;
         put_access_list_metrics(&mut text, alloc, self.port_indices, self.filtered)?;
         put_neighbour_metrics(&mut text, alloc, self.router, self.now)?;
         put_frame_metrics(&mut text, self.ethernet)?;

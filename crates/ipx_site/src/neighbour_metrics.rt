@@ -1,5 +1,12 @@
 //! Prometheus metrics of what each neighbour of a router advertises.
 
+ghost use Rattle.std.specs.Prelude.{◌≡◌, ◌++◌, List, OnOk, string_bytes};
+ghost use Rattle.ipx_table_dump.specs.FirstAdvertisers.{AreFirstAdvertisers};
+ghost use Rattle.ipx_table_dump.specs.declared.advertisers.Advertiser.{Advertiser};
+ghost use Rattle.ipx_tables.specs.declared.source.Source.{Source};
+ghost use Rattle.ipx_site.specs.MetricsText.{families_text, family_lines, sample_line};
+ghost use Rattle.ipx_site.specs.NeighbourFamilies.{figure_of, neighbour_families, neighbour_sample, neighbour_samples};
+
 use crate::family::{Family, put_family};
 use ipx_router::Router;
 use ipx_table_dump::{Advertiser, first_advertisers};
@@ -26,14 +33,16 @@ const HEARD: Family = Family {
 
 /// What is written of a neighbour.
 #[derive(Clone, Copy, PartialEq, Eq)]
-enum Told {
+pub enum Told {
     Networks,
     Services,
     /// How long ago it was heard last, at this time in milliseconds.
     Heard(u64),
 }
 
-fn metric_of_neighbour(teller: &Advertiser, told: Told) -> u64 {
+fn metric_of_neighbour(teller: &Advertiser, told: Told) -> u64
+    ensures { result ≡ figure_of told teller.now }
+{
     match told {
         Told::Networks => teller.networks as u64,
         Told::Services => teller.services as u64,
@@ -41,22 +50,60 @@ fn metric_of_neighbour(teller: &Advertiser, told: Told) -> u64 {
     }
 }
 
+/// Writes a metric of a neighbour, by its port and its node.
+fn put_figure(
+    text: &mut String,
+    alloc: Global,
+    family: &Family,
+    source: &Source,
+    figure: u64,
+) -> Result<(), AllocError>
+    ensures { OnOk result (string_bytes text.new ≡ string_bytes text.old
+        ++ sample_line family.now.name.now (neighbour_sample source.now figure)) }
+{
+    let name = family.name;
+    let port = source.port;
+    let node = hex::encode(alloc, source.neighbour.0)?;
+    write!(text, "{name}{{port=\"{port}\",node=\"{node}\"}} {figure}\n")
+}
+
 /// Writes a metric of each of these neighbours.
 fn put_neighbour_metric(
     text: &mut String,
+    alloc: Global,
     family: &Family,
     advertisers: &[(Source, Advertiser)],
     told: Told,
-) -> Result<(), AllocError> {
+) -> Result<(), AllocError>
+    ensures { OnOk result (string_bytes text.new ≡ string_bytes text.old
+        ++ family_lines (record {
+          name = family.now.name.now;
+          help = family.now.help.now;
+          kind = family.now.kind.now;
+          samples = neighbour_samples told advertisers.now;
+        })) }
+{
     put_family(text, family)?;
     for (source, teller) in advertisers {
-        let name = family.name;
-        let port = source.port;
-        let node = source.neighbour;
         let figure = metric_of_neighbour(teller, told);
-        write!(text, "{name}{{port=\"{port}\",node=\"{node}\"}} {figure}\n")?;
+        put_figure(text, alloc, family, source, figure)?;
     }
     Ok(())
+}
+
+/// Writes how much each of these neighbours advertises.
+fn put_neighbours(
+    text: &mut String,
+    alloc: Global,
+    advertisers: &[(Source, Advertiser)],
+    now: u64,
+) -> Result<(), AllocError>
+    ensures { OnOk result (string_bytes text.new
+        ≡ string_bytes text.old ++ families_text (neighbour_families now advertisers.now)) }
+{
+    put_neighbour_metric(text, alloc, &NETWORKS, advertisers, Told::Networks)?;
+    put_neighbour_metric(text, alloc, &SERVICES, advertisers, Told::Services)?;
+    put_neighbour_metric(text, alloc, &HEARD, advertisers, Told::Heard(now))
 }
 
 /// Writes how much each neighbour advertises that counts at `now`, for the first 256 neighbours by
@@ -66,9 +113,12 @@ pub fn put_neighbour_metrics(
     alloc: Global,
     router: &Router,
     now: u64,
-) -> Result<(), AllocError> {
+) -> Result<(), AllocError>
+    ensures { OnOk result ((listed : List (Source × Advertiser))
+        × AreFirstAdvertisers router.now.routes router.now.services now listed
+        × (string_bytes text.new
+        ≡ string_bytes text.old ++ families_text (neighbour_families now listed))) }
+{
     let advertisers = first_advertisers(alloc, router.routes(), router.services(), now)?;
-    put_neighbour_metric(text, &NETWORKS, &advertisers, Told::Networks)?;
-    put_neighbour_metric(text, &SERVICES, &advertisers, Told::Services)?;
-    put_neighbour_metric(text, &HEARD, &advertisers, Told::Heard(now))
+    put_neighbours(text, alloc, &advertisers, now)
 }

@@ -1,10 +1,17 @@
 //! Prometheus metrics of each port of a router.
 
-use crate::family::{Family, put_family};
+ghost use Rattle.std.specs.Prelude.{◌≡◌, ◌++◌, ◌∷◌, [], ℕ, OnOk, codes, string_bytes};
+ghost use Rattle.std.specs.Fmt.{decimal};
+ghost use Rattle.std.specs.List.{flat_map};
+ghost use Rattle.ipx_site.specs.MetricsText.{at_port_by, families_text, family_lines, family_text, sample_line};
+ghost use Rattle.ipx_site.specs.PortFamilies.{count_of, port_dropped_family, port_families, port_sample, port_samples};
+ghost use Rattle.ipx_site.specs.TotalFamilies.{dropped_outcomes};
+
+use crate::family::{Family, put_each_of_port, put_family};
 use ipx_carrier::OutcomeCounters;
 use ipx_metrics::PortCounts;
 use ipx_router::Port;
-use std::alloc::AllocError;
+use std::alloc::{AllocError, Global};
 
 const HEARD: Family = Family {
     name: "ipx_port_receive_packets_total",
@@ -38,14 +45,16 @@ const DROPPED: Family = Family {
 
 /// What is counted of the traffic at a port.
 #[derive(Clone, Copy)]
-enum Passed {
+pub enum Passed {
     Heard,
     HeardBytes,
     Sent,
     SentBytes,
 }
 
-fn count_of(counts: &PortCounts, passed: Passed) -> u64 {
+fn count_of(counts: &PortCounts, passed: Passed) -> u64
+    ensures { result ≡ count_of passed counts.now }
+{
     match passed {
         Passed::Heard => counts.heard(),
         Passed::HeardBytes => counts.heard_bytes,
@@ -54,36 +63,59 @@ fn count_of(counts: &PortCounts, passed: Passed) -> u64 {
     }
 }
 
+/// Writes a metric of the port with this number, with its network.
+fn put_count(
+    text: &mut String,
+    alloc: Global,
+    family: &Family,
+    number: usize,
+    port: &Port,
+    count: u64,
+) -> Result<(), AllocError>
+    ensures { OnOk result (string_bytes text.new ≡ string_bytes text.old
+        ++ sample_line family.now.name.now (port_sample number port.now count)) }
+{
+    let name = family.name;
+    let network = hex::encode(alloc, port.network.0.to_be_bytes())?;
+    write!(
+        text,
+        "{name}{{port=\"{number}\",network=\"{network}\"}} {count}\n"
+    )
+}
+
 /// Writes a metric of each port, with its number and its network.
 fn put_passed(
     text: &mut String,
+    alloc: Global,
     family: &Family,
     ports: &[Port],
     counters: &[PortCounts],
     passed: Passed,
-) -> Result<(), AllocError> {
+) -> Result<(), AllocError>
+    ensures { OnOk result (string_bytes text.new ≡ string_bytes text.old
+        ++ family_lines (record {
+          name = family.now.name.now;
+          help = family.now.help.now;
+          kind = family.now.kind.now;
+          samples = port_samples passed ports.now counters.now;
+        })) }
+{
     put_family(text, family)?;
     for (place, counts) in counters.iter().enumerate() {
         if let Some(port) = ports.get(place) {
-            let name = family.name;
-            let number = place + 1;
-            let network = port.network;
             let count = count_of(counts, passed);
-            write!(
-                text,
-                "{name}{{port=\"{number}\",network=\"{network}\"}} {count}\n"
-            )?;
+            put_count(text, alloc, family, place + 1, port, count)?;
         }
     }
     Ok(())
 }
 
 /// Writes how many datagrams that came by a port were dropped, by reason.
-fn put_drops(
-    text: &mut String,
-    number: usize,
-    outcomes: &OutcomeCounters,
-) -> Result<(), AllocError> {
+fn put_drops(text: &mut String, number: usize, outcomes: &OutcomeCounters) -> Result<(), AllocError>
+    ensures { OnOk result (string_bytes text.new ≡ string_bytes text.old
+        ++ flat_map (sample_line (codes "ipx_port_dropped_total"))
+        (at_port_by number (codes "reason") (dropped_outcomes outcomes.now))) }
+{
     let metrics = [
         ("bad", outcomes.bad),
         ("propagated", outcomes.propagated),
@@ -93,17 +125,14 @@ fn put_drops(
         ("bad_control", outcomes.bad_control),
         ("table_full", outcomes.table_full),
     ];
-    for (reason, count) in metrics {
-        write!(
-            text,
-            "ipx_port_dropped_total{{port=\"{number}\",reason=\"{reason}\"}} {count}\n"
-        )?;
-    }
-    Ok(())
+    put_each_of_port(text, &DROPPED, number, "reason", &metrics)
 }
 
 /// Writes how many datagrams were dropped, by the port that they came by.
-fn put_dropped(text: &mut String, counters: &[PortCounts]) -> Result<(), AllocError> {
+fn put_dropped(text: &mut String, counters: &[PortCounts]) -> Result<(), AllocError>
+    ensures { OnOk result
+        (string_bytes text.new ≡ string_bytes text.old ++ family_lines (port_dropped_family counters.now)) }
+{
     put_family(text, &DROPPED)?;
     for (place, counts) in counters.iter().enumerate() {
         put_drops(text, place + 1, &counts.outcomes)?;
@@ -115,12 +144,23 @@ fn put_dropped(text: &mut String, counters: &[PortCounts]) -> Result<(), AllocEr
 /// order of the ports.
 pub fn put_port_metrics(
     text: &mut String,
+    alloc: Global,
     ports: &[Port],
     counters: &[PortCounts],
-) -> Result<(), AllocError> {
-    put_passed(text, &HEARD, ports, counters, Passed::Heard)?;
-    put_passed(text, &HEARD_BYTES, ports, counters, Passed::HeardBytes)?;
-    put_passed(text, &SENT, ports, counters, Passed::Sent)?;
-    put_passed(text, &SENT_BYTES, ports, counters, Passed::SentBytes)?;
+) -> Result<(), AllocError>
+    ensures { OnOk result (string_bytes text.new
+        ≡ string_bytes text.old ++ families_text (port_families ports.now counters.now)) }
+{
+    put_passed(text, alloc, &HEARD, ports, counters, Passed::Heard)?;
+    put_passed(
+        text,
+        alloc,
+        &HEARD_BYTES,
+        ports,
+        counters,
+        Passed::HeardBytes,
+    )?;
+    put_passed(text, alloc, &SENT, ports, counters, Passed::Sent)?;
+    put_passed(text, alloc, &SENT_BYTES, ports, counters, Passed::SentBytes)?;
     put_dropped(text, counters)
 }
