@@ -3,7 +3,7 @@ use Rattle.std.proofs.Common.{get_or, Result, Ok, Err, ◌≡◌, ◌∙◌, ◌
 use Rattle.std.proofs.lemmas.List.Sums.{sum_by-cons}
 use Rattle.std.proofs.lemmas.Option.{slice_get_read}
 use Rattle.std.proofs.lemmas.List.Concat.{flat_map-append}
-use Rattle.std.specs.Prelude.{IfOk, IfSome, MatchResult, OnErr, count_by}
+use Rattle.std.specs.Prelude.{IfOk, IfSome, OnErr, count_by}
 use Rattle.ipx_carrier.specs.Readiness.{AsksPortWithMark, MarksStay, Readiness}
 use Rattle.ipx_site.specs.declared.router_ports.PortIndex.{PortIndex}
 use Rattle.ipx_site.specs.declared.router_ports.PortIndex.TheVariants.{Datagrams, Ethernet, IpxnetServer}
@@ -105,10 +105,6 @@ module _ (d w l e : Readiness) (k : ℕ) where
 -- what is there at a port
 pub index_there : (xs : List PortIndex) (p : ℕ) (i j : PortIndex) → p < length xs → i ≡ get_or xs p i → i ≡ j → slice_get xs p ≡ Some j
 index_there xs p i j there is same = slice_get_read xs (length xs) p i refl there is ∙ ap Some same
-
-pub if_ok_only : {T E : Type 0} (P : T → Type 0) (r : Result T E) → IfOk r P → OnErr r ⊥ → MatchResult r P (λ _. ⊥)
-if_ok_only P (Ok t) h isnt = h
-if_ok_only P (Err e) h isnt = absurd isnt
 
 module _ {E : Type 0} (d w l e : Readiness) (k : ℕ) (xs : List PortIndex) (p : ℕ) where
   pub hears_datagrams : (r : Result (Option ℕ) E) → slice_get xs p ≡ Some (Datagrams k) → IfOk r (λ c. AsksPortWithMark k (is_some c) d e)

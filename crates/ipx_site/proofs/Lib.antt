@@ -1,5 +1,6 @@
 pub mod ControlSent
 pub mod SilentNeighbours
+pub mod PortKinds
 pub mod Ports
 pub mod Rounds
 pub mod Parts

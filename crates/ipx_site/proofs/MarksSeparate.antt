@@ -1,12 +1,11 @@
 -- How the core of a site's router sees its ports does not depend on their marks.
-use Rattle.std.proofs.Common.{◌≡◌, ◌∙◌, ◌+◌, ℕ, List, ap, length, map, min, refl, subst, sym}
+use Rattle.std.proofs.Common.{◌≡◌, ◌∙◌, ◌+◌, ℕ, List, ap, map, refl}
 use Rattle.ipx_carrier.specs.Counting.{counted}
 use Rattle.ipx_carrier.specs.Turns.{peers_of}
 use Rattle.ipx_carrier.specs.declared.datagrams.Datagrams as OfDevice
 use Rattle.ipx_ipxnet_ports.specs.declared.place_sockets.PlaceSockets as OfPlaces
 use Rattle.ipx_carrier.specs.declared.owned_rfc1234_ports.OwnedRfc1234Ports.{OwnedRfc1234Ports}
 use Rattle.ipx_ethernet_ports.specs.declared.ethernet_ports.EthernetPorts.{EthernetPorts}
-use Rattle.ipx_ipxnet_ports.specs.OnServers.{PingsAtServers}
 use Rattle.ipx_ipxnet_ports.specs.declared.server_ports.Servers.{Servers}
 use Rattle.ipx_ipxnet_ports.specs.declared.sockets.ServerSockets.{ServerSockets}
 use Rattle.ipx_ethernet_ports.specs.declared.end_sockets.EndSockets as OfSockets
@@ -17,11 +16,9 @@ use Rattle.ipx_sockets.specs.declared.source_filter.SourceFilter.{SourceFilter}
 use Rattle.ipx_site.specs.declared.router_counts.RouterCounts.{RouterCounts}
 use Rattle.ipx_sockets.specs.declared.sockets.UdpSockets.{UdpSockets}
 use Rattle.ipx_site.specs.IdleTime.{EventCounts, happened}
-use Rattle.ipx_site.specs.PortsView.{SitePortsRun, filtered_in_ports, ways_in}
+use Rattle.ipx_site.specs.PortsView.{SitePortsRun, ways_in}
 use Rattle.ipx_site.specs.RouterPorts.{by_kind}
-use Rattle.ipx_site.specs.RouterPings.{PingsFirst, ipxnet_in}
 use Rattle.ipx_site.specs.SiteMarks.{DifferInMarks}
-use Rattle.ipx_sockets.specs.SourceFilter.{drops_in}
 use Rattle.ipx_site.specs.SiteCore.{SiteCore}
 use Rattle.ipx_site.specs.EthernetTotals.{encapsulated_otherwise_in, unframed_in}
 use Rattle.ipx_site.specs.IpxnetTotals.{busy_in, full_in, full_of_address_in, rate_limited_in}
@@ -72,12 +69,6 @@ module _ {gd : OfDevice.Ghosts (SourceFilter UdpSockets)} {ge : OfSockets.Ghosts
       ∙ ap (λ w. by_kind (peers_of r.datagrams.peers.items) (map (λ h. h.port) w.switches.items) s.port_indices.items) m.ethernet
       ∙ ap (λ p. by_kind (peers_of r.datagrams.peers.items) (map (λ h. h.port) r.ethernet.switches.items) p.items) m.port_indices
 
-  pub kept_separate : filtered_in_ports s ≡ filtered_in_ports r
-  kept_separate =
-      ap (λ d. drops_in d.device.kept + (s.ethernet.kept + s.ethernet.sockets.unknown_senders) + (s.servers.kept + s.servers.sockets.nowhere)) m.datagrams
-      ∙ ap (λ w. drops_in r.datagrams.device.kept + (w.kept + w.sockets.unknown_senders) + (s.servers.kept + s.servers.sockets.nowhere)) m.ethernet
-      ∙ ap (λ l. drops_in r.datagrams.device.kept + (r.ethernet.kept + r.ethernet.sockets.unknown_senders) + (l.kept + l.sockets.nowhere)) m.servers
-
   pub happened_separate : (totals : RouterCounts) (core : SiteCore) → happened totals core s ≡ happened totals core r
   happened_separate totals core =
       ap (λ d. of_parts totals core d.device.kept d.device.refused d.device.device.faults s.ethernet.switches.items s.ethernet.sockets.unknown_senders
@@ -86,14 +77,3 @@ module _ {gd : OfDevice.Ghosts (SourceFilter UdpSockets)} {ge : OfSockets.Ghosts
       (w.sockets.failures + w.sockets.faults) (s.servers.sockets.failures + s.servers.sockets.faults) s.servers.sockets.nowhere s.servers.servers.items) m.ethernet
       ∙ ap (λ l. of_parts totals core r.datagrams.device.kept r.datagrams.device.refused r.datagrams.device.device.faults r.ethernet.switches.items r.ethernet.sockets.unknown_senders
       (r.ethernet.sockets.failures + r.ethernet.sockets.faults) (l.sockets.failures + l.sockets.faults) l.sockets.nowhere l.servers.items) m.servers
-
-  -- nor do the pings that were sent before
-  pub pings_separate : (old : SitePortsRun gd ge gl) → PingsFirst r.ethernet.moment old r → PingsFirst s.ethernet.moment old s
-  pings_separate old (pinged, sent, noted, same, at) =
-      let moment : s.ethernet.moment ≡ r.ethernet.moment = ap (λ w. w.moment) m.ethernet in (
-        pinged,
-        subst (λ (now : ℕ). PingsAtServers now (min (length old.servers.servers.items) (length old.servers.sockets.sockets.items)) (ipxnet_in old) (ipxnet_in pinged)) (sym moment) sent,
-        noted,
-        m.pinged ∙ same,
-        ap (λ l. l.moment) m.servers ∙ at ∙ sym moment,
-      )

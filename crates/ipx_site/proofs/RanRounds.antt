@@ -12,13 +12,12 @@ use Rattle.ipx_site.specs.KindPorts.{checked_ports, ArePortsBound}
 use Rattle.ipx_config.specs.Loading.{IsFileText}
 use Rattle.ipx_sockets.specs.PollEvents.{Waited, Watched}
 use Rattle.ipx_rate_limits.specs.PortLimits.{limits_of}
-use Rattle.ipx_site.specs.PortsView.{filtered_in_ports, ways_in}
-use Rattle.ipx_site.specs.RouterPings.{PingsFirst}
+use Rattle.ipx_site.specs.PortsView.{ways_in}
 use Rattle.ipx_site.specs.RouterRounds.{IsRound, SleepsAfter}
 use Rattle.ipx_site.specs.RoutingRuns.{KnowsNothing, Rounds, RoutesWell, RunsTo, StartsBy, StartsByFile, TakesRound}
 use Rattle.ipx_config.specs.Site.{IsSiteText}
 use Rattle.ipx_site.specs.RouterMarks.{AreIndicesDistinct}
-use Rattle.ipx_site.specs.SiteMarks.{KindMarks, all_marks, kind_marks, marks_in, numbers_come, port_fds, port_marks}
+use Rattle.ipx_site.specs.SiteMarks.{AfterMarks, marks_in, numbers_come, port_fds}
 use Rattle.ipx_sockets.specs.AccessLists.{access_by}
 use Rattle.ipx_config.specs.SitePorts.{router_ports}
 use Rattle.ipx_site.specs.StaticNeighbours.{IsToHear}
@@ -36,25 +35,25 @@ when_well (Ok t) failed P same p well = p
 when_well (Err e) failed P same p well = absurd (let no : true ≡ false = same ∙ well in cc)
 
 pub took_round : {R T E : Type 0} (old new : RunningRouter R) (r : Result T E)
-    → (between : SteadyClock R) × (batch : Batch) × (marks : KindMarks) × (time : ℕ)
-    × IsRound old.clock between StopsThere NeverGoesBack (ways_in old.ports) (filtered_in_ports old.ports) (filtered_in_ports new.ports) (port_marks old.ports.port_indices.items (kind_marks old.ports)) (port_marks old.ports.port_indices.items marks) old.asked new.asked old.core new.core new.ports.ethernet.moment batch
-    × SleepsAfter (IsDue (deadlines new.asked new.looked new.responses new.written new.core new.warnings (happened new.totals new.core new.ports) new.ports.servers.servers.items)) (is_any_marked (all_marks marks)) between new.clock StopsThere time batch.fault batch.quiet
+    → (between : SteadyClock R) × (batch : Batch) × (time : ℕ)
+    × AfterMarks (λ ended. IsRound old.clock between StopsThere NeverGoesBack old.ports ended old.asked new.asked old.core new.core new.ports.ethernet.moment batch
+    × SleepsAfter (IsDue (deadlines new.asked new.looked new.responses new.written new.core new.warnings (happened new.totals new.core new.ports) new.ports.servers.servers.items)) (is_any_marked (marks_in ended)) between new.clock StopsThere time batch.fault batch.quiet
+    × OnOk r (AreMarked (numbers_come new.ready) (marks_in ended) (marks_in new.ports))) new.ports
     × (new.ready.trace.items ≡ old.ready.trace.items ++ Waited time ∷ [])
-    × OnOk r (AreMarked (numbers_come new.ready) (all_marks marks) (marks_in new.ports))
-    → is_err r ≡ new.ready.failed → new.ports.servers.moment ≡ new.ports.ethernet.moment → PingsFirst new.ports.ethernet.moment old.ports new.ports → ways_in new.ports ≡ ways_in old.ports
+    → is_err r ≡ new.ready.failed → new.ports.servers.moment ≡ new.ports.ethernet.moment → ways_in new.ports ≡ ways_in old.ports
     → peers_of new.ports.datagrams.peers.items ≡ peers_of old.ports.datagrams.peers.items → new.ports.port_indices.items ≡ old.ports.port_indices.items
     → map access_by new.ports.datagrams.device.access_lists.items ≡ map access_by old.ports.datagrams.device.access_lists.items → TakesRound old new
-took_round old new r core failed moments pings transmissions peers port_indices access = record {
-  between = core.0;
-  batch = core.1;
-  marks = core.2;
-  time = core.3;
-  round = core.4;
-  sleeps = core.5;
-  waits = core.6;
-  marked = when_well r new.ready.failed (AreMarked (numbers_come new.ready) (all_marks core.2) (marks_in new.ports)) failed core.7;
+took_round old new r (between, batch, time, (ended, (round, sleeps, marked), differ), waits) failed moments transmissions peers port_indices access = record {
+  between = between;
+  batch = batch;
+  time = time;
+  turns = (
+    ended,
+    (round, sleeps, when_well r new.ready.failed (AreMarked (numbers_come new.ready) (marks_in ended) (marks_in new.ports)) failed marked),
+    differ,
+  );
+  waits = waits;
   moments = moments;
-  pings = pings;
   transmissions = transmissions;
   peers = peers;
   port_indices = port_indices;

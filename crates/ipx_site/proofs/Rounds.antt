@@ -1,16 +1,27 @@
 -- One round of a running router.
 use Rattle.std.proofs.Common.{◌≡◌, ◌∙◌, ℕ, List, length, min, Bool, true, false, if◌then◌else◌, Option, Some, None, is_some, sym, ap, subst, inl, inr}
+use Rattle.ipx_carrier.specs.declared.datagrams.Datagrams as OfDevice
 use Rattle.ipx_carrier.specs.declared.fault.RunFault.{RunFault}
 use Rattle.ipx_carrier.specs.Turns.{Ways}
 use Rattle.ipx_carrier.specs.declared.report.Batch.{Batch}
 use Rattle.ipx_carrier.specs.Driving.{BurstsBy}
-use Rattle.ipx_carrier.specs.Readiness.{Readiness}
+use Rattle.ipx_ethernet_ports.specs.declared.end_sockets.EndSockets as OfSockets
+use Rattle.ipx_ethernet_ports.specs.declared.sockets.EthernetSockets.{EthernetSockets}
+use Rattle.ipx_ipxnet_ports.specs.declared.place_sockets.PlaceSockets as OfPlaces
+use Rattle.ipx_ipxnet_ports.specs.declared.sockets.ServerSockets.{ServerSockets}
+use Rattle.ipx_sockets.specs.declared.source_filter.SourceFilter.{SourceFilter}
+use Rattle.ipx_sockets.specs.declared.sockets.UdpSockets.{UdpSockets}
 use Rattle.ipxnet_server.specs.ServerHears.{ServerView}
 use Rattle.ipx_site.specs.IdleTime.{Deadlines, EventCounts, IsDue, deadlines}
 use Rattle.ipx_sockets.specs.Moments.{IsTimeUntilDue}
 use Rattle.ipx_site.specs.declared.warnings.Warnings.{Warnings}
 use Rattle.ipx_site.specs.SiteCore.{SiteCore, SiteGives, SiteHears, SiteHearOutOfMemory, SiteNextOutOfMemory}
+use Rattle.ipx_site.specs.PortCalls.{ReceivesAtPort, SendsByPort}
+use Rattle.ipx_site.specs.PortsView.{SitePortsRun, filtered_in_ports, ways_in}
+use Rattle.ipx_site.specs.RouterPings.{BeginsTurns}
+use Rattle.ipx_site.specs.RouterPorts.{PortCopy}
 use Rattle.ipx_site.specs.RouterRounds.{AsksAgain, IsRound, SleepsAfter}
+use Rattle.ipx_site.specs.SiteMarks.{marks_of_ports}
 
 -- a core that repeats its requests keeps its ports
 pub same_ports : (now times times_after : ℕ) (old mid : SiteCore) → AsksAgain now times times_after old mid
@@ -18,19 +29,25 @@ pub same_ports : (now times times_after : ℕ) (old mid : SiteCore) → AsksAgai
 same_ports now times times_after old mid (inl h) = ap (λ (v : SiteCore). length v.core.core.core.router.ports) h.2
 same_ports now times times_after old mid (inr h) = ap (λ (v : SiteCore). length v.core.core.core.router.ports) h.2
 
-pub is_round : {K A : Type 0} (stops tells : K → ℕ → K → Type 0) (clock told tick clock_after : K) (transmissions here : Ways A)
-    (i j n : ℕ) (marked there marked_after : Readiness) (now moment times times_after : ℕ) (old mid new : SiteCore) (b : Batch) → stops clock now told → tick ≡ told → moment ≡ now
-    → AsksAgain now times times_after old mid → here ≡ transmissions → j ≡ i
-    → there ≡ marked
-    → BurstsBy SiteHears SiteHearOutOfMemory SiteGives SiteNextOutOfMemory tells (length mid.core.core.core.router.ports) here 32 b j n there marked_after tick clock_after mid new
-    → IsRound clock clock_after stops tells transmissions i n marked marked_after times times_after old new moment b
-is_round {A = A} stops tells clock told tick clock_after transmissions here i j n marked there marked_after now moment times times_after old mid new b h e m asks f g l bursts =
-    let at = subst (λ ports. BurstsBy SiteHears SiteHearOutOfMemory SiteGives SiteNextOutOfMemory tells ports here 32 b j n there marked_after tick clock_after mid new)
-    (same_ports now times times_after old mid asks) bursts in
-    let by = subst (λ (it : Ways A). BurstsBy SiteHears SiteHearOutOfMemory SiteGives SiteNextOutOfMemory tells (length old.core.core.core.router.ports) it 32 b j n there marked_after tick clock_after mid new) f at in
-    let filtered = subst (λ it. BurstsBy SiteHears SiteHearOutOfMemory SiteGives SiteNextOutOfMemory tells (length old.core.core.core.router.ports) transmissions 32 b it n there marked_after tick clock_after mid new) g by in
-    let from = subst (λ (it : Readiness). BurstsBy SiteHears SiteHearOutOfMemory SiteGives SiteNextOutOfMemory tells (length old.core.core.core.router.ports) transmissions 32 b i n it marked_after tick clock_after mid new) l filtered in
-    (now, tick, mid, subst (λ it. stops clock now it) (sym e) h, m, asks, from)
+module _ {K : Type 0} {gd : OfDevice.Ghosts (SourceFilter UdpSockets)} {ge : OfSockets.Ghosts EthernetSockets} {gl : OfPlaces.Ghosts ServerSockets} (stops tells : K → ℕ → K → Type 0) where
+  pub is_round : (ports begun ports_after : SitePortsRun gd ge gl) (clock told tick clock_after : K) (now moment times times_after : ℕ) (old mid new : SiteCore) (b : Batch)
+      → stops clock now told → tick ≡ told → moment ≡ now → AsksAgain now times times_after old mid → BeginsTurns now ports begun → ways_in begun ≡ ways_in ports
+      → BurstsBy SiteHears SiteHearOutOfMemory SiteGives SiteNextOutOfMemory tells ReceivesAtPort SendsByPort filtered_in_ports marks_of_ports (length mid.core.core.core.router.ports) 1536 (ways_in begun) 32 b begun ports_after tick clock_after mid new
+      → IsRound clock clock_after stops tells ports ports_after times times_after old new moment b
+  is_round ports begun ports_after clock told tick clock_after now moment times times_after old mid new b h e m asks begins same bursts =
+      let at = subst (λ (n : ℕ). BurstsBy SiteHears SiteHearOutOfMemory SiteGives SiteNextOutOfMemory tells ReceivesAtPort SendsByPort filtered_in_ports marks_of_ports n 1536 (ways_in begun) 32 b begun ports_after tick clock_after mid new)
+      (same_ports now times times_after old mid asks) bursts in
+      let by = subst (λ (it : Ways PortCopy). BurstsBy SiteHears SiteHearOutOfMemory SiteGives SiteNextOutOfMemory tells ReceivesAtPort SendsByPort filtered_in_ports marks_of_ports (length old.core.core.core.router.ports) 1536 it 32 b begun ports_after tick clock_after mid new) same at in
+      (now, tick, mid, begun, subst (λ it. stops clock now it) (sym e) h, m, asks, begins, by)
+
+  -- what holds of a round and the wait after it does not depend on what stays the same after them
+  pub round_then : (ports ended : SitePortsRun gd ge gl) (clock clock' : K) (asked asked' asked'' : ℕ) (old new new' : SiteCore) (moment moment' : ℕ) (b : Batch)
+      → asked'' ≡ asked' → new' ≡ new → moment' ≡ moment
+      → IsRound clock clock' stops tells ports ended asked asked' old new moment b → IsRound clock clock' stops tells ports ended asked asked'' old new' moment' b
+  round_then ports ended clock clock' asked asked' asked'' old new new' moment moment' b f g h round =
+      let one = subst (λ it. IsRound clock clock' stops tells ports ended asked it old new moment b) (sym f) round in
+      let two = subst (λ it. IsRound clock clock' stops tells ports ended asked asked'' old it moment b) (sym g) one in
+      subst (λ it. IsRound clock clock' stops tells ports ended asked asked'' old new' it b) (sym h) two
 
 -- how long a router waits, by how its batch ended
 pub rests : {K : Type 0} (todo : ℕ → Type 0) (marked : Bool) (clock clock' : K) (stops : K → ℕ → K → Type 0) (asked : ℕ)
@@ -52,16 +69,6 @@ pub goes_on : {K : Type 0} (todo : ℕ → Type 0) (marked : Bool) (clock clock'
 goes_on todo marked clock clock' stops asked (Some f) quiet e q at same = absurd (cc)
 goes_on todo marked clock clock' stops asked None true e q at same = absurd (cc)
 goes_on todo marked clock clock' stops asked None false e q at same = (at, same)
-
--- what holds of a round and the wait after it does not depend on what stays the same after them
-pub round_then : {K A : Type 0} (stops tells : K → ℕ → K → Type 0) (clock clock' : K) (transmissions : Ways A) (kept kept' kept'' : ℕ) (marked marked' : Readiness) (asked asked' asked'' : ℕ)
-    (old new new' : SiteCore) (moment moment' : ℕ) (b : Batch) → kept'' ≡ kept' → asked'' ≡ asked' → new' ≡ new → moment' ≡ moment
-    → IsRound clock clock' stops tells transmissions kept kept' marked marked' asked asked' old new moment b → IsRound clock clock' stops tells transmissions kept kept'' marked marked' asked asked'' old new' moment' b
-round_then stops tells clock clock' transmissions kept kept' kept'' marked marked' asked asked' asked'' old new new' moment moment' b e f g h round =
-    let one = subst (λ it. IsRound clock clock' stops tells transmissions kept it marked marked' asked asked' old new moment b) (sym e) round in
-    let two = subst (λ it. IsRound clock clock' stops tells transmissions kept kept'' marked marked' asked it old new moment b) (sym f) one in
-    let three = subst (λ it. IsRound clock clock' stops tells transmissions kept kept'' marked marked' asked asked'' old it moment b) (sym g) two in
-    subst (λ it. IsRound clock clock' stops tells transmissions kept kept'' marked marked' asked asked'' old new' it b) (sym h) three
 
 pub sleeps_then : {K : Type 0} (a b : Deadlines) (marked : Bool) (clock clock' : K) (stops : K → ℕ → K → Type 0) (asked : ℕ)
     (fault : Option RunFault) (quiet : Bool) → b ≡ a → SleepsAfter (IsDue a) marked clock clock' stops asked fault quiet

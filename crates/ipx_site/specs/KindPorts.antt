@@ -10,8 +10,8 @@ use Rattle.ipxnet_server.specs.declared.port.Secret.{Secret}
 use Rattle.ipx_table_dump.specs.declared.client_places.ClientPlace.{ClientPlace}
 use Rattle.ipx_site.specs.KnownPlaces.{places_known}
 use Rattle.ipxnet_server.specs.declared.port.ServerPort.{ServerPort}
-use Rattle.ipx_ipxnet_ports.specs.ServerAddresses.{bound_places as bound_servers, prefixes_heard}
-use Rattle.ipx_ethernet_ports.specs.EthernetAddresses.{bound_places, remote_places}
+use Rattle.ipx_ipxnet_ports.specs.ServerAddresses.{bound_places as bound_servers, prefixes_heard, server_events}
+use Rattle.ipx_ethernet_ports.specs.EthernetAddresses.{bound_places, ethernet_events, remote_places}
 use Rattle.ipx_carrier.specs.declared.datagrams.Datagrams as OfDevice
 use Rattle.ipx_ipxnet_ports.specs.declared.place_sockets.PlaceSockets as OfPlaces
 use Rattle.ipx_ipxnet_ports.specs.declared.sockets.ServerSockets.{ServerSockets}
@@ -19,6 +19,7 @@ use Rattle.ipx_ethernet_ports.specs.declared.end_sockets.EndSockets as OfSockets
 use Rattle.ipx_ethernet_ports.specs.declared.sockets.EthernetSockets.{EthernetSockets}
 use Rattle.ipx_sockets.specs.declared.source_filter.SourceFilter.{SourceFilter}
 use Rattle.ipx_sockets.specs.declared.sockets.UdpSockets.{UdpSockets}
+use Rattle.ipx_sockets.specs.Senders.{udp_events}
 use Rattle.ipx_site.specs.PortsView.{SitePortsRun}
 use Rattle.ipx_site.specs.Registering.{MayRegisterAt}
 use Rattle.ipx_site.specs.declared.router_ports.PortIndex.{PortIndex}
@@ -66,7 +67,7 @@ server_of_port secret known p =
 -- the ports of a file as those of a router. An RFC 1234 port has its peers, its access list, and a socket
 -- with the UDP port of its peers. An Ethernet port has its switch, and a socket with the places of its
 -- remotes. An ipxnet port has its server, with this secret and notes of these clients, and a socket that accepts those
--- that may register. Each socket is bound where the file says
+-- that may register. Each socket is bound where the file says, and was asked nothing yet
 pub record ArePortsBound {gd : OfDevice.Ghosts (SourceFilter UdpSockets)} {ge : OfSockets.Ghosts EthernetSockets} {gl : OfPlaces.Ghosts ServerSockets} (secret : Secret) (known : List ClientPlace) (ports : List PortConfig) (r : SitePortsRun gd ge gl) : Type 0 where
   pub port_indices : r.port_indices.items ≡ port_indices_of ports
   pub peers : peers_of r.datagrams.peers.items ≡ site_peers (datagram_ports ports)
@@ -79,6 +80,9 @@ pub record ArePortsBound {gd : OfDevice.Ghosts (SourceFilter UdpSockets)} {ge : 
   pub servers : r.servers.servers.items ≡ map (server_of_port secret known) (ipxnet_ports ports)
   pub ipxnet_bound : bound_servers r.servers.sockets.sockets.items ≡ ipxnet_places (ipxnet_ports ports)
   pub registering : MayRegisterAt (ipxnet_ports ports) (map prefixes_heard r.servers.sockets.sockets.items)
+  pub fresh : udp_events r.datagrams.device.device.sockets.items ≡ map (λ p. []) (datagram_ports ports)
+  pub ethernet_fresh : ethernet_events r.ethernet.sockets.ethernet.items ≡ map (λ p. []) (ethernet_ports ports)
+  pub ipxnet_fresh : server_events r.servers.sockets.sockets.items ≡ map (λ p. []) (ipxnet_ports ports)
 
 -- the ports for source checks: which of them are Ethernet ports
 abbrev pub is_ethernet : PortConfig → Bool

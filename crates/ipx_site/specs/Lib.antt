@@ -12,6 +12,7 @@ pub mod DropLog
 pub mod RouterMetrics
 pub mod Registering
 pub mod KindPorts
+pub mod PortCalls
 pub mod RouterPorts
 pub mod EthernetTotals
 pub mod IpxnetTotals

@@ -14,10 +14,11 @@ use Rattle.ipx_site.specs.PortsView.{SitePortsRun}
 abbrev pub ipxnet_in : {gd : OfDevice.Ghosts (SourceFilter UdpSockets)} {ge : OfSockets.Ghosts EthernetSockets} {gl : OfPlaces.Ghosts ServerSockets} → SitePortsRun gd ge gl → ServersView
 ipxnet_in r = servers_view r.servers.servers.items r.servers.kept None r.servers.sockets.failures
 
--- the pings that are due at this time are sent at all ipxnet ports, before anything else is sent or received
--- there. What comes after goes on from the ports that have sent them, at the same time
-abbrev pub PingsFirst : {gd : OfDevice.Ghosts (SourceFilter UdpSockets)} {ge : OfSockets.Ghosts EthernetSockets} {gl : OfPlaces.Ghosts ServerSockets} → ℕ → SitePortsRun gd ge gl → SitePortsRun gd ge gl → Type 0
-PingsFirst {gd} {ge} {gl} now old new = (pinged : SitePortsRun gd ge gl)
-    × PingsAtServers now (min (length old.servers.servers.items) (length old.servers.sockets.sockets.items))
-    (ipxnet_in old) (ipxnet_in pinged)
-    × (pinged.pinged ≡ true) × (new.pinged ≡ pinged.pinged) × (new.servers.moment ≡ now)
+-- the ports as the turns of a round begin: they have this time, and the pings that are due then were sent at all
+-- ipxnet ports. Nothing else was sent or received
+abbrev pub BeginsTurns : {gd : OfDevice.Ghosts (SourceFilter UdpSockets)} {ge : OfSockets.Ghosts EthernetSockets} {gl : OfPlaces.Ghosts ServerSockets} → ℕ → SitePortsRun gd ge gl → SitePortsRun gd ge gl → Type 0
+BeginsTurns now old new =
+    PingsAtServers now (min (length old.servers.servers.items) (length old.servers.sockets.sockets.items))
+    (ipxnet_in old) (ipxnet_in new)
+    × (new.pinged ≡ true) × (new.servers.moment ≡ now) × (new.ethernet ≡ record old.ethernet { moment = now })
+    × (new.datagrams ≡ old.datagrams) × (new.port_indices ≡ old.port_indices)

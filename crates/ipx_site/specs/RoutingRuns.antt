@@ -14,12 +14,11 @@ use Rattle.ipx_table_dump.specs.declared.client_places.ClientPlace.{ClientPlace}
 use Rattle.ipx_config.specs.Loading.{IsFileText}
 use Rattle.ipx_sockets.specs.PollEvents.{Waited, Watched}
 use Rattle.ipx_rate_limits.specs.PortLimits.{limits_of}
-use Rattle.ipx_site.specs.PortsView.{filtered_in_ports, ways_in}
-use Rattle.ipx_site.specs.RouterPings.{PingsFirst}
+use Rattle.ipx_site.specs.PortsView.{ways_in}
 use Rattle.ipx_site.specs.RouterRounds.{IsRound, SleepsAfter}
 use Rattle.ipx_config.specs.Site.{IsSiteText}
 use Rattle.ipx_site.specs.RouterMarks.{AreIndicesDistinct}
-use Rattle.ipx_site.specs.SiteMarks.{KindMarks, all_marks, kind_marks, marks_in, numbers_come, port_fds, port_marks}
+use Rattle.ipx_site.specs.SiteMarks.{AfterMarks, marks_in, numbers_come, port_fds}
 use Rattle.ipx_sockets.specs.AccessLists.{access_by}
 use Rattle.ipx_config.specs.SitePorts.{router_ports}
 use Rattle.ipx_site.specs.StaticNeighbours.{IsToHear}
@@ -53,26 +52,22 @@ pub record StartsBy {R : Type 0} (site : RouterConfig) (first : RunningRouter R)
   pub asked : first.asked ≡ 0
 
 -- one round, which begins with the pings that are due, followed by one wait, as long as there is nothing to do.
--- If the wait does not fail, the ports at which something came are marked, and no others. Marks of before stay.
--- The ways of packets, the port indices and the accepted senders are unchanged
+-- If the wait does not fail, the ports at which something came are marked, and no others. Marks of before stay,
+-- and nothing else changes at the ports after the turns. The ways of packets, the port indices and the accepted senders are unchanged
 pub record TakesRound {R : Type 0} (old new : RunningRouter R) : Type 0 where
   pub between : SteadyClock R
   pub batch : Batch
-  pub marks : KindMarks
   pub time : ℕ
-  pub round : IsRound old.clock between StopsThere NeverGoesBack (ways_in old.ports)
-      (filtered_in_ports old.ports) (filtered_in_ports new.ports)
-      (port_marks old.ports.port_indices.items (kind_marks old.ports))
-      (port_marks old.ports.port_indices.items marks) old.asked new.asked old.core new.core
+  pub turns : AfterMarks (λ ended.
+      IsRound old.clock between StopsThere NeverGoesBack old.ports ended old.asked new.asked old.core new.core
       new.ports.ethernet.moment batch
-  pub sleeps : SleepsAfter (IsDue (deadlines new.asked new.looked new.responses new.written new.core
-      new.warnings (happened new.totals new.core new.ports) new.ports.servers.servers.items)) (is_any_marked (all_marks marks))
+      × SleepsAfter (IsDue (deadlines new.asked new.looked new.responses new.written new.core
+      new.warnings (happened new.totals new.core new.ports) new.ports.servers.servers.items)) (is_any_marked (marks_in ended))
       between new.clock StopsThere time batch.fault batch.quiet
+      × (new.ready.failed ≡ false → AreMarked (numbers_come new.ready) (marks_in ended) (marks_in new.ports)))
+      new.ports
   pub waits : new.ready.trace.items ≡ old.ready.trace.items ++ Waited time ∷ []
-  pub marked : new.ready.failed ≡ false
-      → AreMarked (numbers_come new.ready) (all_marks marks) (marks_in new.ports)
   pub moments : new.ports.servers.moment ≡ new.ports.ethernet.moment
-  pub pings : PingsFirst new.ports.ethernet.moment old.ports new.ports
   pub transmissions : ways_in new.ports ≡ ways_in old.ports
   pub peers : peers_of new.ports.datagrams.peers.items ≡ peers_of old.ports.datagrams.peers.items
   pub port_indices : new.ports.port_indices.items ≡ old.ports.port_indices.items

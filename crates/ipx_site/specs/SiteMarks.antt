@@ -18,37 +18,20 @@ use Rattle.ipx_ipxnet_ports.specs.ServerAddresses.{server_fds}
 use Rattle.ipx_site.specs.PortsView.{SitePortsRun}
 use Rattle.ipx_site.specs.RouterMarks.{marked_by_kind}
 use Rattle.ipx_sockets.specs.Senders.{udp_fds}
-use Rattle.ipx_site.specs.declared.router_ports.PortIndex.{PortIndex}
 
 -- the numbers of the descriptors at which something came at the last wait, starting at 0
 abbrev pub numbers_come : Poller → List ℕ
 numbers_come r = map (λ e. (event_token e).0) (items r.events)
 
--- the marks of the ports of each kind
-pub record KindMarks : Type 0 where
-  pub datagrams : List Bool
-  pub ethernet : List Bool
-  pub servers : List Bool
-
-abbrev pub kind_marks : {gd : OfDevice.Ghosts (SourceFilter UdpSockets)} {ge : OfSockets.Ghosts EthernetSockets} {gl : OfPlaces.Ghosts ServerSockets} → SitePortsRun gd ge gl → KindMarks
-kind_marks r = record {
-  datagrams = r.datagrams.device.device.marks;
-  ethernet = r.ethernet.sockets.marks;
-  servers = r.servers.sockets.marks;
-}
-
 -- the mark of each port of a router, by the indices of its ports
-abbrev pub port_marks : List PortIndex → KindMarks → Readiness
-port_marks port_indices marks = marked_by_kind (is_port_marked marks.datagrams)
-    (is_port_marked marks.ethernet) (is_port_marked marks.servers) port_indices
+abbrev pub marks_of_ports : {gd : OfDevice.Ghosts (SourceFilter UdpSockets)} {ge : OfSockets.Ghosts EthernetSockets} {gl : OfPlaces.Ghosts ServerSockets} → SitePortsRun gd ge gl → Readiness
+marks_of_ports r = marked_by_kind (is_port_marked r.datagrams.device.device.marks)
+    (is_port_marked r.ethernet.sockets.marks) (is_port_marked r.servers.sockets.marks) r.port_indices.items
 
 -- the marks of RFC 1234 ports, then of Ethernet ports, then of ipxnet ports. A poller numbers their
 -- descriptors in this order
-abbrev pub all_marks : KindMarks → List Bool
-all_marks marks = marks.datagrams ++ (marks.ethernet ++ marks.servers)
-
 abbrev pub marks_in : {gd : OfDevice.Ghosts (SourceFilter UdpSockets)} {ge : OfSockets.Ghosts EthernetSockets} {gl : OfPlaces.Ghosts ServerSockets} → SitePortsRun gd ge gl → List Bool
-marks_in r = all_marks (kind_marks r)
+marks_in r = r.datagrams.device.device.marks ++ (r.ethernet.sockets.marks ++ r.servers.sockets.marks)
 
 -- the descriptors of the sockets of RFC 1234 ports, then of Ethernet ports, then of ipxnet ports
 abbrev pub port_fds : {gd : OfDevice.Ghosts (SourceFilter UdpSockets)} {ge : OfSockets.Ghosts EthernetSockets} {gl : OfPlaces.Ghosts ServerSockets} → SitePortsRun gd ge gl → List ℤ
@@ -62,3 +45,7 @@ pub record DifferInMarks {gd : OfDevice.Ghosts (SourceFilter UdpSockets)} {ge : 
   pub servers : new.servers ≡ record old.servers { sockets = record old.servers.sockets { marks = new.servers.sockets.marks } }
   pub port_indices : new.port_indices ≡ old.port_indices
   pub pinged : new.pinged ≡ old.pinged
+
+-- these ports are others with marks set after that, of which this holds
+abbrev pub AfterMarks : {gd : OfDevice.Ghosts (SourceFilter UdpSockets)} {ge : OfSockets.Ghosts EthernetSockets} {gl : OfPlaces.Ghosts ServerSockets} → (SitePortsRun gd ge gl → Type 0) → SitePortsRun gd ge gl → Type 0
+AfterMarks {gd} {ge} {gl} holds new = (ended : SitePortsRun gd ge gl) × holds ended × DifferInMarks ended new

@@ -4,7 +4,7 @@ ghost use Rattle.std.specs.Prelude.{◌≡◌, ◌++◌, ◌∷◌, [], IfOk, On
 ghost use Rattle.ipx_config.specs.PortLists.{end_places, ethernet_places, ethernet_ports};
 ghost use Rattle.ipx_site.specs.KindPorts.{switch_of, ethernet_port_of};
 ghost use Rattle.ipx_carrier.specs.Traces.{v4_at};
-ghost use Rattle.ipx_ethernet_ports.specs.EthernetAddresses.{bound_places, remote_places};
+ghost use Rattle.ipx_ethernet_ports.specs.EthernetAddresses.{bound_places, ethernet_events, remote_places};
 
 use ipx_carrier::socket_addr;
 use ipx_config::{EthernetPortConfig, PortConfig};
@@ -52,6 +52,8 @@ fn bind_ethernet_port<R: Net>(
         ≡ bound_places sockets.old.ethernet.items ++ v4_at port.now.address port.now.udp_port ∷ []) }
     ensures ends { OnOk result (remote_places sockets.new.ethernet.items
         ≡ remote_places sockets.old.ethernet.items ++ port.now.ends.items ∷ []) }
+    ensures fresh { OnOk result (ethernet_events sockets.new.ethernet.items
+        ≡ ethernet_events sockets.old.ethernet.items ++ [] ∷ []) }
 {
     let Ok(ends) = Vec::from_slice(alloc, &port.ends) else {
         return Err(BindFault::OutOfMemory);
@@ -78,6 +80,8 @@ fn bind_ethernet_ports<R: Net>(
         bound_places s.ethernet.items ≡ ethernet_places (ethernet_ports ports.now)) }
     ensures ends { IfOk result (λ s.
         remote_places s.ethernet.items ≡ end_places (ethernet_ports ports.now)) }
+    ensures fresh { IfOk result (λ s.
+        ethernet_events s.ethernet.items ≡ map (λ p. []) (ethernet_ports ports.now)) }
 {
     let mut sockets = EthernetSockets::new(alloc);
     for (place, port) in ports.iter().enumerate() {
@@ -99,6 +103,9 @@ pub fn ethernet_ports_of<R: Net>(
         bound_places w.sockets.ethernet.items ≡ ethernet_places (ethernet_ports ports.now)) }
     ensures ends { IfOk result (λ w.
         remote_places w.sockets.ethernet.items ≡ end_places (ethernet_ports ports.now)) }
+    // No socket was asked anything yet.
+    ensures fresh { IfOk result (λ w.
+        ethernet_events w.sockets.ethernet.items ≡ map (λ p. []) (ethernet_ports ports.now)) }
 {
     let Ok(switches) = switches_of(alloc, ports) else {
         return Err(BindFault::OutOfMemory);

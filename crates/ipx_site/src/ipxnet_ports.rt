@@ -1,7 +1,7 @@
 //! The ipxnet ports of a router: their sockets and their servers.
 
 ghost use Rattle.std.specs.Prelude.{◌≡◌, ◌++◌, ◌∷◌, [], List, Option, IfOk, OnOk, map};
-ghost use Rattle.ipx_ipxnet_ports.specs.ServerAddresses.{bound_places, prefixes_heard};
+ghost use Rattle.ipx_ipxnet_ports.specs.ServerAddresses.{bound_places, prefixes_heard, server_events};
 ghost use Rattle.ipx_site.specs.KindPorts.{client_port_of, server_of_port};
 ghost use Rattle.ipx_site.specs.KnownPlaces.{is_known_here, places_known};
 ghost use Rattle.ipxnet_server.specs.Restarts.{server_noting_all};
@@ -101,6 +101,8 @@ fn bind_server<R: Net + Log>(
     ensures registering { OnOk result ((prefixes : Option (List Prefix)) × MayRegister port.now prefixes
         × (map prefixes_heard sockets.new.sockets.items
         ≡ map prefixes_heard sockets.old.sockets.items ++ prefixes ∷ [])) }
+    ensures fresh { OnOk result (server_events sockets.new.sockets.items
+        ≡ server_events sockets.old.sockets.items ++ [] ∷ []) }
 {
     let Ok(allow) = registering(rt, alloc, number, port) else {
         return Err(BindFault::OutOfMemory);
@@ -127,6 +129,8 @@ fn bind_servers<R: Net + Log>(
         bound_places s.sockets.items ≡ ipxnet_places (ipxnet_ports ports.now)) }
     ensures registering { IfOk result (λ s.
         MayRegisterAt (ipxnet_ports ports.now) (map prefixes_heard s.sockets.items)) }
+    ensures fresh { IfOk result (λ s.
+        server_events s.sockets.items ≡ map (λ p. []) (ipxnet_ports ports.now)) }
 {
     let mut sockets = ServerSockets::new(alloc);
     for (place, port) in ports.iter().enumerate() {
@@ -151,6 +155,9 @@ pub fn servers_of<R: Net + Log>(
         bound_places l.sockets.sockets.items ≡ ipxnet_places (ipxnet_ports ports.now)) }
     ensures registering { IfOk result (λ l.
         MayRegisterAt (ipxnet_ports ports.now) (map prefixes_heard l.sockets.sockets.items)) }
+    // No socket was asked anything yet.
+    ensures fresh { IfOk result (λ l.
+        server_events l.sockets.sockets.items ≡ map (λ p. []) (ipxnet_ports ports.now)) }
 {
     let Ok(servers) = servers_of_ports(alloc, kept, ports) else {
         return Err(BindFault::OutOfMemory);

@@ -1,14 +1,14 @@
 //! The ports of a running router, of all kinds.
 
-ghost use Rattle.std.specs.Prelude.{◌≡◌, ◌<◌, ◌≤◌, ◌+◌, ◌^◌, All, IfErr, IfOk, IfSome, None, OnErr, false, is_some, length, map, min, slice_get, true};
+ghost use Rattle.std.specs.Prelude.{◌≡◌, ◌<◌, ◌≤◌, ◌+◌, ◌^◌, All, IfErr, IfOk, IfSome, None, OnErr, OnOk, false, is_some, length, map, min, slice_get, true};
+ghost use Rattle.ipx_carrier.specs.Device.{received_in};
 ghost use Rattle.ipx_carrier.specs.Readiness.{AsksPortWithMark, MarksStay};
 ghost use Rattle.ipx_carrier.specs.RunFaultNumbers.{device_failures};
 ghost use Rattle.ipx_carrier.specs.PortDrivers.{SendsFrontOf, copies_count, count_in};
 ghost use Rattle.ipx_carrier.specs.Turns.{copies_of, peers_of};
 ghost use Rattle.ipx_ipxnet_ports.specs.OnServers.{PingsAtServers, servers_view, server_ports};
-ghost use Rattle.ipx_ethernet_ports.specs.OnEthernet.{ethernet_ports_view};
 ghost use Rattle.ipx_site.specs.RouterMarks.{marked_by_kind};
-ghost use Rattle.ipx_site.specs.RouterPorts.{ReceivesByKind, SendsByKind, by_kind, fits};
+ghost use Rattle.ipx_site.specs.RouterPorts.{by_kind, fits};
 
 use ipx_carrier::{
     CountsFiltered, Datagrams, DeviceFault, OwnedRfc1234Ports, PacketSent, PortDriver,
@@ -154,6 +154,7 @@ impl<D: Datagrams + Drop, E: EndSockets + Drop, L: PlaceSockets + Drop> PortDriv
     for RouterPorts<D, E, L> {
     ghost use Rattle.std.specs.Prelude.{Bool, List, ℕ};
     ghost use Rattle.ipx_carrier.specs.Turns.{Peers};
+    ghost use Rattle.ipx_site.specs.PortCalls.{FailsToReceive, FailsToSend, ReceivesAtPort, SendsByPort};
     ghost use Rattle.ipx_site.specs.RouterPorts.{PortCopy};
     ghost use Rattle.ipx_site.specs.declared.router_ports.PortIndex.{PortIndex};
 
@@ -196,9 +197,9 @@ impl<D: Datagrams + Drop, E: EndSockets + Drop, L: PlaceSockets + Drop> PortDriv
     ghost marked = { λ r. marked_by_kind (D.marked r.datagrams.device)
         (E.marked r.ethernet.sockets) (L.marked r.servers.sockets) r.port_indices.items };
 
-    ghost receives = { λ s port size answer t. Unit {0} };
+    ghost receives = { ReceivesAtPort };
 
-    ghost sends = { λ s packet t. Unit {0} };
+    ghost sends = { SendsByPort };
 
     fn ports(&self) -> usize {
         self.port_indices.len()
@@ -213,18 +214,10 @@ impl<D: Datagrams + Drop, E: EndSockets + Drop, L: PlaceSockets + Drop> PortDriv
         requires countable { D.failed self.old.datagrams.device + 1 < 2 ^ 64 }
         // It is sent by the port's kind, at its index there. The ports of other kinds are
         // unchanged.
-        ensures sent { SendsByKind (slice_get self.old.port_indices.items port) node packet.now result
-            (peers_of self.old.datagrams.peers.items) (E.ends_of self.old.ethernet.sockets)
-            self.old.ethernet.moment self.old.servers.moment
-            (D.traffic self.old.datagrams.device) (D.traffic self.new.datagrams.device)
-            (ethernet_ports_view self.old.ethernet.switches.items self.old.ethernet.kept
-            (E.traffic self.old.ethernet.sockets) (E.failed self.old.ethernet.sockets))
-            (ethernet_ports_view self.new.ethernet.switches.items self.new.ethernet.kept
-            (E.traffic self.new.ethernet.sockets) (E.failed self.new.ethernet.sockets))
-            (servers_view self.old.servers.servers.items self.old.servers.kept
-            (L.traffic self.old.servers.sockets) (L.failed self.old.servers.sockets))
-            (servers_view self.new.servers.servers.items self.new.servers.kept
-            (L.traffic self.new.servers.sockets) (L.failed self.new.servers.sockets)) }
+        ensures sends { OnOk result (SendsByPort self.old
+            (record { port = port; node = node; bytes = packet.now }) self.new) }
+        ensures fails { OnErr result (FailsToSend (slice_get self.old.port_indices.items port)
+            self.old (record { port = port; node = node; bytes = packet.now }) self.new) }
         ensures count { IfOk result (λ sent. count_in sent
             ≡ copies_count (by_kind (peers_of self.old.datagrams.peers.items)
             (map (λ h. h.port) self.old.ethernet.switches.items) self.old.port_indices.items)
@@ -269,20 +262,12 @@ impl<D: Datagrams + Drop, E: EndSockets + Drop, L: PlaceSockets + Drop> PortDriv
     fn receive(&mut self, port: usize, room: &mut [u8]) -> Result<Option<usize>, DeviceFault>
         requires there { port < length self.old.port_indices.items }
         requires countable { D.failed self.old.datagrams.device + 1 < 2 ^ 64 }
-        // It is received by the port's kind, at its index there. The ports of other kinds are
-        // unchanged.
-        ensures received { ReceivesByKind (slice_get self.old.port_indices.items port)
-            (length room.old) room.new result
-            (E.ends_of self.old.ethernet.sockets) self.old.ethernet.moment self.old.servers.moment
-            (D.traffic self.old.datagrams.device) (D.traffic self.new.datagrams.device)
-            (ethernet_ports_view self.old.ethernet.switches.items self.old.ethernet.kept
-            (E.traffic self.old.ethernet.sockets) (E.failed self.old.ethernet.sockets))
-            (ethernet_ports_view self.new.ethernet.switches.items self.new.ethernet.kept
-            (E.traffic self.new.ethernet.sockets) (E.failed self.new.ethernet.sockets))
-            (servers_view self.old.servers.servers.items self.old.servers.kept
-            (L.traffic self.old.servers.sockets) (L.failed self.old.servers.sockets))
-            (servers_view self.new.servers.servers.items self.new.servers.kept
-            (L.traffic self.new.servers.sockets) (L.failed self.new.servers.sockets)) }
+        // It is received by the port's kind, at its index there. The sockets of an Ethernet or
+        // ipxnet port were asked. The ports of other kinds are unchanged.
+        ensures receives { IfOk result (λ count. ReceivesAtPort self.old port (length room.old)
+            (received_in room.new count) self.new) }
+        ensures fails { OnErr result (FailsToReceive (slice_get self.old.port_indices.items port)
+            self.old self.new) }
         ensures within { IfOk result (λ count. IfSome count (λ n. n ≤ length room.old)) }
         ensures failures { D.failed self.new.datagrams.device
             ≡ device_failures result (D.failed self.old.datagrams.device) }

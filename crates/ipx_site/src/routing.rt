@@ -1,6 +1,6 @@
 //! The command `route`.
 
-ghost use Rattle.std.specs.Prelude.{◌≡◌, ◌≤◌, ◌⊎◌, ◌+◌, false, None, All, IfErr, IfOk, OnErr, OnOk, is_ok, if◌then◌else◌, length, map};
+ghost use Rattle.std.specs.Prelude.{◌≡◌, ◌≤◌, ◌⊎◌, ◌+◌, [], false, None, All, IfErr, IfOk, OnErr, OnOk, is_ok, if◌then◌else◌, length, map};
 ghost use Rattle.ipx_router.specs.NewRouter.{IsOwnNetwork};
 ghost use Rattle.ipx_router.specs.Ports.{IsPortNumber};
 ghost use Rattle.ipx_static.specs.StaticAdvertisements.{AreWordsOf};
@@ -10,6 +10,7 @@ ghost use Rattle.ipx_source_checks.specs.SourceChecks.{nothing_dropped_yet};
 ghost use Rattle.ipx_site.specs.KindPorts.{checked_port_of_kind, checked_ports, is_ethernet, ArePortsBound, port_indices_of};
 ghost use Rattle.ipx_config.specs.PortLists.{datagram_places, datagram_ports};
 ghost use Rattle.ipx_sockets.specs.PollEvents.{Watched};
+ghost use Rattle.ipx_sockets.specs.Senders.{udp_events};
 ghost use Rattle.ipx_rate_limits.specs.PortLimits.{limits_of};
 ghost use Rattle.ipx_config.specs.StaticLists.{HearsAtPorts};
 ghost use Rattle.ipx_site.specs.StaticNeighbours.{IsToHear};
@@ -316,6 +317,8 @@ fn datagrams_of<R: Net>(
         ≡ udp_ports (datagram_ports ports.now)) }
     ensures at { IfOk result (λ d. map (λ p. p.socket.at) d.device.device.sockets.items
         ≡ datagram_places (datagram_ports ports.now)) }
+    ensures fresh { IfOk result (λ d.
+        udp_events d.device.device.sockets.items ≡ map (λ p. []) (datagram_ports ports.now)) }
 {
     let access_lists = access_lists_of(alloc, ports)?;
     let peers = peers_by_port(alloc, ports)?;

@@ -9,11 +9,10 @@ ghost use Rattle.ipx_site.specs.IdleTime.{IsDue, IsToSend, deadlines, counts_to_
 ghost use Rattle.ipx_site.specs.KnownFile.{TellsKnown};
 ghost use Rattle.ipx_sockets.specs.PollEvents.{Waited};
 ghost use Rattle.ipx_sockets.specs.AccessLists.{access_by};
-ghost use Rattle.ipx_site.specs.PortsView.{filtered_in_ports, ways_in};
+ghost use Rattle.ipx_site.specs.PortsView.{ways_in};
 ghost use Rattle.ipx_site.specs.RouterMetrics.{AreMetrics};
-ghost use Rattle.ipx_site.specs.RouterPings.{PingsFirst};
 ghost use Rattle.ipx_site.specs.RouterRounds.{AsksAgain, IsRound, SleepsAfter};
-ghost use Rattle.ipx_site.specs.SiteMarks.{KindMarks, all_marks, kind_marks, marks_in, numbers_come, port_marks};
+ghost use Rattle.ipx_site.specs.SiteMarks.{AfterMarks, marks_in, numbers_come};
 ghost use Rattle.ipx_sockets.specs.Steady.{NeverGoesBack, StopsThere};
 
 use crate::client_log::ClientLog;
@@ -363,18 +362,15 @@ impl<'a, R: SystemClock> RunningRouter<'a, R> {
     /// Does the work that is due, pings silent clients, and takes turns as long as there is something
     /// to receive or to send.
     fn round<S: Log + Files>(&mut self, rt: &S, alloc: Global) -> Batch
+        // Before its turns it sends the pings that are due. In each turn its ports received what its
+        // core heard, and sent what its core gave.
         ensures core { IsRound self.old.clock self.new.clock
-            StopsThere NeverGoesBack (ways_in self.old.ports)
-            (filtered_in_ports self.old.ports) (filtered_in_ports self.new.ports)
-            (port_marks self.old.ports.port_indices.items (kind_marks self.old.ports))
-            (port_marks self.old.ports.port_indices.items (kind_marks self.new.ports))
+            StopsThere NeverGoesBack self.old.ports self.new.ports
             self.old.asked self.new.asked self.old.core self.new.core
             self.new.ports.ethernet.moment result }
         ensures ready { self.new.ready ≡ self.old.ready }
         // Ipxnet servers send and receive at the same time as Ethernet ports.
         ensures moments { self.new.ports.servers.moment ≡ self.new.ports.ethernet.moment }
-        // Before its turns it sends the pings that are due at that time.
-        ensures pings { PingsFirst self.new.ports.ethernet.moment self.old.ports self.new.ports }
         // The ways packets are sent and the senders that are accepted are unchanged.
         ensures transmissions { ways_in self.new.ports ≡ ways_in self.old.ports }
         ensures peers { peers_of self.new.ports.datagrams.peers.items
@@ -436,27 +432,24 @@ impl<'a, R: SystemClock> RunningRouter<'a, R> {
     /// waits, and marks the ports where something came.
     pub(crate) fn step<S: Log + Files>(&mut self, rt: &S, alloc: Global) -> Result<(), WaitFault>
         // A round, which stops the clock before its turns, followed by one wait, as long as there
-        // is nothing to do. Then the ports are marked at which something came.
-        ensures core { (between : SteadyClock R) × (batch : Batch) × (marks : KindMarks) × (time : ℕ)
-            × IsRound self.old.clock between StopsThere NeverGoesBack (ways_in self.old.ports)
-            (filtered_in_ports self.old.ports) (filtered_in_ports self.new.ports)
-            (port_marks self.old.ports.port_indices.items (kind_marks self.old.ports))
-            (port_marks self.old.ports.port_indices.items marks)
-            self.old.asked self.new.asked self.old.core self.new.core
+        // is nothing to do. Then the ports are marked at which something came, and nothing else
+        // changes there.
+        ensures core { (between : SteadyClock R) × (batch : Batch) × (time : ℕ)
+            × AfterMarks (λ ended. IsRound self.old.clock between StopsThere NeverGoesBack
+            self.old.ports ended self.old.asked self.new.asked self.old.core self.new.core
             self.new.ports.ethernet.moment batch
             × SleepsAfter (IsDue (deadlines self.new.asked self.new.looked self.new.responses
             self.new.written self.new.core self.new.warnings
             (happened self.new.totals self.new.core self.new.ports)
             self.new.ports.servers.servers.items))
-            (is_any_marked (all_marks marks))
+            (is_any_marked (marks_in ended))
             between self.new.clock StopsThere time batch.fault batch.quiet
-            × (self.new.ready.trace.items ≡ self.old.ready.trace.items ++ Waited time ∷ [])
-            × OnOk result (AreMarked (numbers_come self.new.ready) (all_marks marks)
-            (marks_in self.new.ports)) }
+            × OnOk result (AreMarked (numbers_come self.new.ready) (marks_in ended)
+            (marks_in self.new.ports))) self.new.ports
+            × (self.new.ready.trace.items ≡ self.old.ready.trace.items ++ Waited time ∷ []) }
         // It fails exactly if the wait did.
         ensures fault { is_err result ≡ self.new.ready.failed }
         ensures moments { self.new.ports.servers.moment ≡ self.new.ports.ethernet.moment }
-        ensures pings { PingsFirst self.new.ports.ethernet.moment self.old.ports self.new.ports }
         ensures transmissions { ways_in self.new.ports ≡ ways_in self.old.ports }
         ensures peers { peers_of self.new.ports.datagrams.peers.items
             ≡ peers_of self.old.ports.datagrams.peers.items }

@@ -12,7 +12,7 @@ loop-round-preserved g c =
     let new = c.step.new.self in
     let e = c.step.ensures in
     rounds_more c.loop-round._round c.args.self.now now new c.loop-round.invariant
-    (took_round now new c.step.result e.core e.fault e.moments e.pings e.transmissions e.peers e.port_indices e.access) (first_of (search rules, cc))
+    (took_round now new c.step.result e.core e.fault e.moments e.transmissions e.peers e.port_indices e.access) (first_of (search rules, cc))
 
 pub returns-in_err-step : goal.returns-in_err-step
 returns-in_err-step g c =
@@ -24,7 +24,7 @@ returns-in_err-step g c =
       c.loop-round._round,
       now,
       c.loop-round.invariant,
-      took_round now new c.step.result e.core e.fault e.moments e.pings e.transmissions e.peers e.port_indices e.access,
+      took_round now new c.step.result e.core e.fault e.moments e.transmissions e.peers e.port_indices e.access,
       first_of (search rules, cc),
     )
 

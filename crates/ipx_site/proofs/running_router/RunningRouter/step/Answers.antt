@@ -2,12 +2,10 @@ use Rattle.std.proofs.Common.{◌≡◌, ◌∙◌, ◌++◌, ◌∷◌, [], ap,
 use Rattle.ipx_carrier.specs.ReadySet.{is_any_marked}
 use Rattle.ipx_site.specs.IdleTime.{IsDue, deadlines, happened}
 use Rattle.ipx_sockets.specs.PollEvents.{Waited}
-use Rattle.ipx_site.specs.PortsView.{filtered_in_ports, ways_in}
-use Rattle.ipx_site.specs.RouterPings.{PingsFirst}
 use Rattle.ipx_site.specs.RouterRounds.{IsRound, SleepsAfter}
-use Rattle.ipx_site.specs.SiteMarks.{kind_marks, marks_in, port_marks}
+use Rattle.ipx_site.specs.SiteMarks.{marks_in}
 use Rattle.ipx_sockets.specs.Steady.{NeverGoesBack, StopsThere}
-use Rattle.ipx_site.proofs.MarksSeparate.{happened_separate, kept_separate, pings_separate}
+use Rattle.ipx_site.proofs.MarksSeparate.{happened_separate, same_marks}
 use Rattle.ipx_site.proofs.Rounds.{round_then, same_deadlines, sleeps_then}
 use Rattle.ipx_site.proofs.running_router.RunningRouter.step.Goals as goal
 
@@ -25,15 +23,23 @@ returns-in_err-wait-clause-core g c =
     (ap (λ it. happened it t.core t.ports) e.totals ∙ ap (λ it. happened s.totals it t.ports) e.core ∙ ap (λ it. happened s.totals s.core it) e.ports) (ap (λ it. it.servers.servers.items) e.ports) in (
       s.clock,
       b,
-      kind_marks s.ports,
       c.rest-time.result,
-      round_then StopsThere NeverGoesBack old.clock s.clock (ways_in old.ports) (filtered_in_ports old.ports) (filtered_in_ports s.ports) (filtered_in_ports t.ports) (port_marks old.ports.port_indices.items (kind_marks old.ports)) (port_marks old.ports.port_indices.items (kind_marks s.ports)) old.asked s.asked t.asked
-          old.core s.core t.core s.ports.ethernet.moment t.ports.ethernet.moment b (ap filtered_in_ports e.ports) e.asked e.core (ap (λ it. it.ethernet.moment) e.ports) c.round-batch.ensures.core,
-      sleeps_then (deadlines s.asked s.looked s.responses s.written s.core s.warnings (happened s.totals s.core s.ports) s.ports.servers.servers.items)
-          (deadlines t.asked t.looked t.responses t.written t.core t.warnings (happened t.totals t.core t.ports) t.ports.servers.servers.items) (is_any_marked (marks_in s.ports)) s.clock t.clock StopsThere
-          c.rest-time.result b.fault b.quiet same e.rests,
+      (
+        t.ports,
+        (
+          subst (λ it. IsRound old.clock s.clock StopsThere NeverGoesBack old.ports it old.asked t.asked old.core t.core t.ports.ethernet.moment b) (sym e.ports)
+              (round_then StopsThere NeverGoesBack old.ports s.ports old.clock s.clock old.asked s.asked t.asked
+              old.core s.core t.core s.ports.ethernet.moment t.ports.ethernet.moment b e.asked e.core (ap (λ it. it.ethernet.moment) e.ports) c.round-batch.ensures.core),
+          subst (λ it. SleepsAfter (IsDue (deadlines t.asked t.looked t.responses t.written t.core t.warnings (happened t.totals t.core t.ports) t.ports.servers.servers.items))
+              (is_any_marked (marks_in it)) s.clock t.clock StopsThere c.rest-time.result b.fault b.quiet) (sym e.ports)
+              (sleeps_then (deadlines s.asked s.looked s.responses s.written s.core s.warnings (happened s.totals s.core s.ports) s.ports.servers.servers.items)
+              (deadlines t.asked t.looked t.responses t.written t.core t.warnings (happened t.totals t.core t.ports) t.ports.servers.servers.items) (is_any_marked (marks_in s.ports)) s.clock t.clock StopsThere
+              c.rest-time.result b.fault b.quiet same e.rests),
+          search rules,
+        ),
+        same_marks t.ports,
+      ),
       waits_once,
-      search rules,
     )
 
 pub returns-clause-core : goal.returns-clause-core
@@ -54,29 +60,22 @@ returns-clause-core g c =
     (ap (λ l. l.servers.items) m.servers ∙ ap (λ it. it.servers.servers.items) e.ports) in (
       s.clock,
       b,
-      kind_marks t.ports,
       c.rest-time.result,
-      subst (λ it. IsRound old.clock s.clock StopsThere NeverGoesBack (ways_in old.ports) (filtered_in_ports old.ports) (filtered_in_ports ports) (port_marks old.ports.port_indices.items (kind_marks old.ports)) (port_marks old.ports.port_indices.items (kind_marks it)) old.asked t.asked old.core t.core ports.ethernet.moment b) (sym e.ports)
-          (round_then StopsThere NeverGoesBack old.clock s.clock (ways_in old.ports) (filtered_in_ports old.ports) (filtered_in_ports s.ports) (filtered_in_ports ports) (port_marks old.ports.port_indices.items (kind_marks old.ports)) (port_marks old.ports.port_indices.items (kind_marks s.ports)) old.asked s.asked t.asked
-          old.core s.core t.core s.ports.ethernet.moment ports.ethernet.moment b (kept_separate t.ports ports m ∙ ap filtered_in_ports e.ports) e.asked e.core
-          (ap (λ it. it.moment) m.ethernet ∙ ap (λ it. it.ethernet.moment) e.ports) c.round-batch.ensures.core),
-      subst (λ it. SleepsAfter (IsDue (deadlines t.asked t.looked t.responses t.written t.core t.warnings (happened t.totals t.core ports) ports.servers.servers.items))
-          (is_any_marked (marks_in it)) s.clock t.clock StopsThere c.rest-time.result b.fault b.quiet) (sym e.ports)
-          (sleeps_then (deadlines s.asked s.looked s.responses s.written s.core s.warnings (happened s.totals s.core s.ports) s.ports.servers.servers.items)
-          (deadlines t.asked t.looked t.responses t.written t.core t.warnings (happened t.totals t.core ports) ports.servers.servers.items) (is_any_marked (marks_in s.ports)) s.clock t.clock StopsThere
-          c.rest-time.result b.fault b.quiet same e.rests),
+      (
+        t.ports,
+        (
+          subst (λ it. IsRound old.clock s.clock StopsThere NeverGoesBack old.ports it old.asked t.asked old.core t.core ports.ethernet.moment b) (sym e.ports)
+              (round_then StopsThere NeverGoesBack old.ports s.ports old.clock s.clock old.asked s.asked t.asked
+              old.core s.core t.core s.ports.ethernet.moment ports.ethernet.moment b e.asked e.core
+              (ap (λ it. it.moment) m.ethernet ∙ ap (λ it. it.ethernet.moment) e.ports) c.round-batch.ensures.core),
+          subst (λ it. SleepsAfter (IsDue (deadlines t.asked t.looked t.responses t.written t.core t.warnings (happened t.totals t.core ports) ports.servers.servers.items))
+              (is_any_marked (marks_in it)) s.clock t.clock StopsThere c.rest-time.result b.fault b.quiet) (sym e.ports)
+              (sleeps_then (deadlines s.asked s.looked s.responses s.written s.core s.warnings (happened s.totals s.core s.ports) s.ports.servers.servers.items)
+              (deadlines t.asked t.looked t.responses t.written t.core t.warnings (happened t.totals t.core ports) ports.servers.servers.items) (is_any_marked (marks_in s.ports)) s.clock t.clock StopsThere
+              c.rest-time.result b.fault b.quiet same e.rests),
+          c.mark_ready.ensures.marks,
+        ),
+        m,
+      ),
       waits_once,
-      c.mark_ready.ensures.marks,
     )
-
-pub returns-in_err-wait-clause-pings : goal.returns-in_err-wait-clause-pings
-returns-in_err-wait-clause-pings g c =
-    let old = c.args.self.now in
-    subst (λ it. PingsFirst it.ethernet.moment old.ports it) (sym c.rest-time.ensures.ports) c.round-batch.ensures.pings
-
-pub returns-clause-pings : goal.returns-clause-pings
-returns-clause-pings g c =
-    let old = c.args.self.now in
-    let t = c.rest-time.new.self in
-    pings_separate t.ports c.mark_ready.new.ports c.mark_ready.ensures.rest old.ports
-    (subst (λ it. PingsFirst it.ethernet.moment old.ports it) (sym c.rest-time.ensures.ports) c.round-batch.ensures.pings)
