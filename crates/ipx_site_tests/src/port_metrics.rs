@@ -104,7 +104,12 @@ fn metrics_of_ports_in_text(rt: HostRuntime) -> Result<(), Fail> {
     let mut core = two_ports(alloc)?;
     hear_all(alloc, &mut core)?;
     let mut text = String::new(alloc);
-    put_port_metrics(&mut text, alloc, core.router().ports(), core.port_counters())?;
+    put_port_metrics(
+        &mut text,
+        alloc,
+        core.router().ports(),
+        core.port_counters(),
+    )?;
     for line in LINES {
         assert!(rt; text.as_str().contains(line), "{line}");
     }
@@ -296,9 +301,21 @@ fn refused_metrics_of_ports(rt: HostRuntime) -> Result<(), Fail> {
     let alloc = rt.alloc();
     let core = two_ports_at_last(alloc)?;
     let mut text = String::new(alloc);
-    if put_port_metrics(&mut text, alloc, core.router().ports(), core.port_counters()).is_err() {
+    if put_port_metrics(
+        &mut text,
+        alloc,
+        core.router().ports(),
+        core.port_counters(),
+    )
+    .is_err()
+    {
         text = String::new(alloc);
-        put_port_metrics(&mut text, alloc, core.router().ports(), core.port_counters())?;
+        put_port_metrics(
+            &mut text,
+            alloc,
+            core.router().ports(),
+            core.port_counters(),
+        )?;
     }
     let end = "ipx_port_dropped_total{port=\"2\",reason=\"table_full\"} 0\n";
     assert!(rt; text.as_str().ends_with(end));
