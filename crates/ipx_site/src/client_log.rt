@@ -247,6 +247,7 @@ impl ClientLog {
         ensures few { IfOk result (λ n.
             length n.gone.items + length n.came.items ≤ max_client_lines) }
         ensures looked { self.new.looked ≡ self.old.looked }
+        ensures repeats { self.new.repeats ≡ self.old.repeats }
         ensures refused { OnErr result (self.new ≡ self.old) }
     {
         let news = news_of(alloc, &self.told, there)?;

@@ -178,12 +178,9 @@ impl ClientsFile {
         ports: &UdpRouterPorts,
         now: u64,
     ) -> Result<(), ClientsFileFault> {
-        if !self.is_time(now) {
+        if self.path.is_none() || !self.is_time(now) {
             return Ok(());
         }
-        let Some(path) = &self.path else {
-            return Ok(());
-        };
         self.looked = Some(now);
         let Ok(news) = self.news(alloc, ports.servers().servers()) else {
             return Err(ClientsFileFault::OutOfMemory);
@@ -192,6 +189,9 @@ impl ClientsFile {
             return Ok(());
         };
         self.written = Some(now);
+        let Some(path) = &self.path else {
+            return Ok(());
+        };
         match write_private(rt, alloc, path, news.text.as_str()) {
             Ok(Ok(())) => {}
             Ok(Err(_)) => return Err(ClientsFileFault::File),
