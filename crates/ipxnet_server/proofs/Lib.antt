@@ -10,4 +10,5 @@ pub mod Notes
 pub mod Asked
 pub mod Apart
 pub mod FloodTimes
+pub mod CopyTimes
 pub mod Little

@@ -10,6 +10,7 @@ pub mod Restarts
 pub mod ServerFloods
 pub mod ServerRuns
 pub mod FloodRuns
+pub mod CopyRuns
 pub mod Unshown
 pub mod JoinedLearns
 pub mod ServerCounted

@@ -1,6 +1,8 @@
 //! Laws on what joined servers learn, on who is noted, on who is pinged how often, on how often
-//! a client floods, and on what an address without a client gets. They do nothing.
+//! a client floods, on how many copies are sent, and on what an address without a client gets. They
+//! do nothing.
 
+ghost use Rattle.ipxnet_server.specs.CopyRuns.{CopiesAreLimited};
 ghost use Rattle.ipxnet_server.specs.FloodRuns.{ClientsFloodSeldom};
 ghost use Rattle.ipxnet_server.specs.JoinedLearns.{NoGivenPacketShowsAClient};
 ghost use Rattle.ipxnet_server.specs.NotedPlaces.{RegistrationsKeepOtherNotes};
@@ -65,6 +67,12 @@ pub fn clients_showed_their_nodes()
 /// second between the two, in any course of calls.
 pub fn clients_flood_seldom()
     ensures { ClientsFloodSeldom }
+{}
+
+/// From one time to another, at most 200,000 copies of floods are sent by a port, whoever sent them,
+/// and 100,000 more for each second between the two, in any course of calls of a new server.
+pub fn copies_are_limited()
+    ensures { CopiesAreLimited }
 {}
 
 /// An address from which no datagram shows its node gets at most three datagrams for each
