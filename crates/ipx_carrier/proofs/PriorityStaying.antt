@@ -8,7 +8,7 @@ use Rattle.ipx_router.specs.Knowledge.{Known, known_at, routes_in, services_in}
 use Rattle.ipx_router.specs.RouterPackets.{SendingView}
 use Rattle.ipx_router.specs.RouterView.{RouterView}
 use Rattle.ipx_router.specs.Starting.{AreStarts}
-use Rattle.ipx_router.specs.Telling.{AreAdvertisements, is_due}
+use Rattle.ipx_router.specs.Advertisements.{AreAdvertisements, is_due}
 use Rattle.ipx_carrier.specs.RouterQueues.{TellsNow, dropped_if_full, max_queued, put_after}
 use Rattle.ipx_carrier.specs.PriorityRouterCore.{PriorityQueues, PriorityCoreView, HoldsTheSame, KeepsAllButQueues, Dequeues, PriorityStartsAndTells, after_advertisement, dropped_by_advertisement}
 use Rattle.ipx_carrier.proofs.Advertising.{counted_after}
@@ -29,11 +29,11 @@ none_told k last told now sent true e h = absurd (cc)
 none_told k last told now sent false e h = h
 
 -- after an advertisement none is due at that time
-pub not_due : (old new : RouterView) (now : ℕ) (sent : List SendingView) → TellsNow old now sent new → is_due new.told now ≡ false
-not_due old new now sent h = told_by (known_at old now) old.told new.told now sent (is_due old.told now) refl h.0
+pub not_due : (old new : RouterView) (now : ℕ) (sent : List SendingView) → TellsNow old now sent new → is_due new.advertised_at now ≡ false
+not_due old new now sent h = told_by (known_at old now) old.advertised_at new.advertised_at now sent (is_due old.advertised_at now) refl h.0
 
-pub tells_nothing : (old new : RouterView) (now : ℕ) (sent : List SendingView) → is_due old.told now ≡ false → TellsNow old now sent new → (sent ≡ []) × (new.told ≡ old.told)
-tells_nothing old new now sent late h = none_told (known_at old now) old.told new.told now sent (is_due old.told now) late h.0
+pub tells_nothing : (old new : RouterView) (now : ℕ) (sent : List SendingView) → is_due old.advertised_at now ≡ false → TellsNow old now sent new → (sent ≡ []) × (new.advertised_at ≡ old.advertised_at)
+tells_nothing old new now sent late h = none_told (known_at old now) old.advertised_at new.advertised_at now sent (is_due old.advertised_at now) late h.0
 
 none_first : (ports : List Port) (started : Bool) (sent : List SendingView) → started ≡ true → MatchBool started (sent ≡ []) (AreStarts 1 ports sent) → sent ≡ []
 none_first ports true sent e h = h
@@ -116,7 +116,7 @@ puts_nothing : (now : ℕ) (old ready mid again : PriorityCoreView) → (h : Pri
 puts_nothing now old ready mid again h m g =
     let router : mid.router ≡ h.2 = ap (λ (c : PriorityCoreView). c.router) m ∙ ap (λ (c : PriorityCoreView). c.router) h.5 in
     let started : mid.started ≡ true = ap (λ (c : PriorityCoreView). c.started) m ∙ ap (λ (c : PriorityCoreView). c.started) h.5 in
-    let late : is_due mid.router.told now ≡ false = ap (λ (v : RouterView). is_due v.told now) router ∙ not_due old.router h.2 now h.1 h.4 in
+    let late : is_due mid.router.advertised_at now ≡ false = ap (λ (v : RouterView). is_due v.advertised_at now) router ∙ not_due old.router h.2 now h.1 h.4 in
     (none_first mid.router.ports mid.started g.0 started g.3, (tells_nothing mid.router g.2 now g.1 late g.4).0)
 
 -- so its queues stay

@@ -184,7 +184,7 @@ LeaveInOrder old packets new = (packets ≡ map given_of
 -- a router holds the same entries; in which order its tables list them may differ
 abbrev pub HoldsTheSame : RouterView → RouterView → Type 0
 HoldsTheSame old new = HoldsKnown (known_in old.ports old.routes old.services) (tables new)
-    × KeepsAllButOffers old new × (new.told ≡ old.told)
+    × KeepsAllButOffers old new × (new.advertised_at ≡ old.advertised_at)
 
 -- a core's router holds the same, and otherwise only the core's queues change
 abbrev pub KeepsAllButQueues : PriorityCoreView → PriorityCoreView → Type 0

@@ -8,7 +8,7 @@ use Rattle.ipx_router.specs.Ports.{IsPortNumber}
 use Rattle.ipx_router.specs.OutOfMemoryCases.{RunsOutOfMemory}
 use Rattle.ipx_router.specs.Starting.{AreStarts}
 use Rattle.ipx_router.specs.Knowledge.{HoldsKnown, KeepsAllButOffers, known_at, tables}
-use Rattle.ipx_router.specs.Telling as telling
+use Rattle.ipx_router.specs.Advertisements as advertisements
 use Rattle.ipx_carrier.specs.Counting.{counted}
 use Rattle.ipx_carrier.specs.Turns.{Given}
 
@@ -49,7 +49,7 @@ AreFirst started router sent = MatchBool started (sent ≡ []) (AreStarts 1 rout
 
 -- what a router advertises if it is due, and the router after
 abbrev pub TellsNow : RouterView → ℕ → List SendingView → RouterView → Type 0
-TellsNow old now sent new = telling.TellsIfDue (known_at old now) old.told now sent new.told
+TellsNow old now sent new = advertisements.TellsIfDue (known_at old now) old.advertised_at now sent new.advertised_at
     × HoldsKnown (known_at old now) (tables new) × KeepsAllButOffers old new
 
 -- ---- out of memory
@@ -61,12 +61,12 @@ IsSpaceFor queue sent = (0 < length sent) × (length queue + length sent ≤ max
 -- a router runs out of memory for what it receives
 abbrev pub ReceivesInVain : RouterView → ℕ → List ℕ → ℕ → RouterView → Type 0
 ReceivesInVain old port bytes now new =
-    RunsOutOfMemory old port bytes now new × KeepsAllButOffers old new × (new.told ≡ old.told)
+    RunsOutOfMemory old port bytes now new × KeepsAllButOffers old new × (new.advertised_at ≡ old.advertised_at)
 
 -- a router runs out of memory as it is to advertise, and the advertisement is still due
 abbrev pub TellsInVain : RouterView → ℕ → RouterView → Type 0
-TellsInVain old now new = (telling.is_due old.told now ≡ true)
-    × telling.HasToTell (known_at old now) now × (new.told ≡ old.told)
+TellsInVain old now new = (advertisements.is_due old.advertised_at now ≡ true)
+    × advertisements.HasToTell (known_at old now) now × (new.advertised_at ≡ old.advertised_at)
     × HoldsKnown (known_at old now) (tables new) × KeepsAllButOffers old new
 
 -- the same, or the queue runs out of memory for the advertisements, which are lost

@@ -31,7 +31,7 @@ use Rattle.ipx_config.specs.declared.site.Directed.TheVariants.{Never, Few, Alwa
 use Rattle.ipx_config.specs.declared.site.EthernetPortConfig.{EthernetPortConfig}
 use Rattle.ipx_config.specs.declared.ipxnet_port.IpxnetPortConfig.{IpxnetPortConfig}
 use Rattle.ipx_config.specs.declared.site.PortConfig.{PortConfig}
-use Rattle.ipx_config.specs.declared.site.PortConfig.TheVariants.{Rfc1234, Frames, Ipxnet}
+use Rattle.ipx_config.specs.declared.site.PortConfig.TheVariants.{Rfc1234, Ethernet, Ipxnet}
 use Rattle.ipx_config.specs.declared.site.RouterConfig.{RouterConfig}
 use Rattle.ipx_config.specs.declared.site.Rfc1234PortConfig.{Rfc1234PortConfig}
 use Rattle.ipx_config.specs.PortKinds.{network_of_kind, place_of_kind}
@@ -100,22 +100,22 @@ abbrev pub ethernet_end_text : SocketAddrV4 → List ℕ
 ethernet_end_text end = codes " " ++ reached_text (ipv4_octets (v4_ip end)) (v4_port end)
 
 -- the word for a port that does not switch frames between its remotes
-abbrev pub joined_text : Bool → List ℕ
-joined_text joined = if joined then [] else codes " switch false"
+abbrev pub switch_text : Bool → List ℕ
+switch_text switched = if switched then [] else codes " switch false"
 
 -- its cost, the places of its remotes, whether it switches frames between them, and which directed broadcasts
 -- leave by it
-abbrev pub ethernet_text : EthernetPortConfig → List ℕ
-ethernet_text p =
+abbrev pub ethernet_fields_text : EthernetPortConfig → List ℕ
+ethernet_fields_text p =
     codes "cost " ++ (decimal p.cost ++ (codes " remotes" ++ (flat_map ethernet_end_text p.ends.items
-    ++ (joined_text p.joined ++ directed_text p.directed))))
+    ++ (switch_text p.switched ++ directed_text p.directed))))
 
 -- an Ethernet port with its number
-abbrev pub frames_text : ℕ → EthernetPortConfig → List ℕ
-frames_text number p =
+abbrev pub ethernet_text : ℕ → EthernetPortConfig → List ℕ
+ethernet_text number p =
     codes "port " ++ (decimal number ++ (codes " " ++ (place_text p.network p.node
     ++ (codes " ethernet " ++ (frame_word p.encapsulation ++ (codes " udp "
-    ++ (reached_text p.address p.udp_port ++ (codes " " ++ ethernet_text p))))))))
+    ++ (reached_text p.address p.udp_port ++ (codes " " ++ ethernet_fields_text p))))))))
 
 -- the places of the routers that a port is joined to, if any
 abbrev pub join_text : List SocketAddrV4 → List ℕ
@@ -139,7 +139,7 @@ ipxnet_text number p =
 -- a port with its number, as a router prints it when it starts
 abbrev pub port_text : ℕ → PortConfig → List ℕ
 port_text number (Rfc1234 p) = rfc1234_text number p
-port_text number (Frames p) = frames_text number p
+port_text number (Ethernet p) = ethernet_text number p
 port_text number (Ipxnet p) = ipxnet_text number p
 
 -- the lines of ports, the first of which has this number
@@ -232,8 +232,8 @@ peer_line whose (Host name) = host_line whose (string_bytes name)
 -- the remarks about the addresses that a port sends to, each after the words that say which port it is
 abbrev pub reached_remarks : List ℕ → PortConfig → List ℕ
 reached_remarks whose (Rfc1234 p) = each_after (peer_remark whose p.address) [] p.peers.items
-reached_remarks whose (Frames p) =
-    each_after (ethernet_end_remark (whose ++ codes "remote") (place_of_kind (Frames p))) [] p.ends.items
+reached_remarks whose (Ethernet p) =
+    each_after (ethernet_end_remark (whose ++ codes "remote") (place_of_kind (Ethernet p))) [] p.ends.items
 reached_remarks whose (Ipxnet p) = flat_map (peer_line whose) p.peers.items
     ++ (ignored_remark whose p.accept (length p.peers.items)
     ++ (node_remark whose p ++ flat_map (joined_remark whose (place_of_kind (Ipxnet p))) p.join.items))
@@ -260,7 +260,7 @@ file_name_text which (Some name) = which ++ shown_text (string_bytes name)
 abbrev pub file_line : List ℕ → RouterConfig → List ℕ
 file_line path s =
     path ++ (codes ": " ++ (count_text (length s.ports.items)
-    ++ (codes ", " ++ (status_text s.status ++ (file_name_text (codes ", tables_file ") s.tables
+    ++ (codes ", " ++ (status_text s.metrics_file ++ (file_name_text (codes ", tables_file ") s.tables_file
     ++ (file_name_text (codes ", secret_file ") s.secret_file ++ 10 ∷ []))))))
 
 -- ---- static routes and services, in the form of the table file
@@ -295,7 +295,7 @@ is_left_out (Some ips) ip = not (is_peer ips.items ip)
 -- a port names its routers, and an IP address is none of them
 abbrev pub is_no_router : PortConfig → List ℕ → Bool
 is_no_router (Rfc1234 p) ip = is_left_out p.routers ip
-is_no_router (Frames p) ip = false
+is_no_router (Ethernet p) ip = false
 is_no_router (Ipxnet p) ip = false
 
 abbrev pub is_no_router_at : Option PortConfig → List ℕ → Bool

@@ -8,18 +8,18 @@ use Rattle.ipx_config.specs.declared.site.Directed.TheVariants as Directed
 use Rattle.ipx_config.specs.declared.site.Kind.{Kind}
 use Rattle.ipx_config.specs.declared.site.Kind.TheVariants as Of
 use Rattle.ipx_config.specs.declared.site.PortConfig.{PortConfig}
-use Rattle.ipx_config.specs.declared.site.PortConfig.TheVariants.{Rfc1234, Frames, Ipxnet}
+use Rattle.ipx_config.specs.declared.site.PortConfig.TheVariants.{Rfc1234, Ethernet, Ipxnet}
 use Rattle.ipx_config.specs.Fields.{Holds, HoldsOr, IsFault, IsRight, IsRightOr, IsStray, IsWrong}
 use Rattle.ipx_config.specs.IpxnetTable.{IsIpxnetFault, IsIpxnetTable}
-use Rattle.ipx_config.specs.Keys.{first_unknown, frames_keys}
+use Rattle.ipx_config.specs.Keys.{first_unknown, ethernet_keys}
 use Rattle.ipx_config.specs.Port.{IsPortFault, IsPortTable}
 use Rattle.ipx_config.specs.PortKinds.{kind_of_port}
 use Rattle.ipx_config.specs.Values.{IsCount, IsDirected, IsIpAddress, IsKind, IsNetwork}
 use Rattle.ipx_config.specs.EthernetValues.{AreEthernetEnds, IsEncapsulation, IsFlag, IsStation, made_station}
 
 -- a table describes an Ethernet port, if its kind is that
-pub record IsFramesTable (ms : Members) (p : EthernetPortConfig) : Type 0 where
-  pub known : first_unknown frames_keys ms ≡ None
+pub record IsEthernetTable (ms : Members) (p : EthernetPortConfig) : Type 0 where
+  pub known : first_unknown ethernet_keys ms ≡ None
   pub network : Holds IsNetwork Key.Network ms p.network
   pub encapsulation : Holds IsEncapsulation Key.Encapsulation ms p.encapsulation
   pub address : Holds IsIpAddress Key.Address ms p.address
@@ -27,32 +27,32 @@ pub record IsFramesTable (ms : Members) (p : EthernetPortConfig) : Type 0 where
   pub cost : HoldsOr (IsCount 65535) Key.Cost ms 1 p.cost
   pub ends : Holds AreEthernetEnds Key.Remotes ms p.ends
   pub node : HoldsOr IsStation Key.Node ms (made_station p.address p.udp_port) p.node
-  pub joined : HoldsOr IsFlag Key.Switch ms true p.joined
+  pub switched : HoldsOr IsFlag Key.Switch ms true p.switched
   pub directed : HoldsOr IsDirected Key.Directed ms Directed.Few p.directed
 
 -- the first fault of the keys for the remotes, and of the keys after them
-abbrev pub IsEthernetFault : Members → ℕ → ConfigError → Type 0
-IsEthernetFault ms table f = IsFault AreEthernetEnds Key.Remotes ms table f
+abbrev pub IsEthernetFieldFault : Members → ℕ → ConfigError → Type 0
+IsEthernetFieldFault ms table f = IsFault AreEthernetEnds Key.Remotes ms table f
     ⊎ (IsRight AreEthernetEnds Key.Remotes ms × (IsWrong IsStation Key.Node ms table f
     ⊎ (IsRightOr IsStation Key.Node ms × (IsWrong IsFlag Key.Switch ms table f
     ⊎ (IsRightOr IsFlag Key.Switch ms × IsWrong IsDirected Key.Directed ms table f)))))
 
 -- the first fault of the table: a name that is no key of this kind, followed by the keys in order
-abbrev pub IsFramesFault : ℕ → Members → ConfigError → Type 0
-IsFramesFault table ms f =
-    IsStray Of.Frames ms table f
-    ⊎ ((first_unknown frames_keys ms ≡ None) × (IsFault IsNetwork Key.Network ms table f
+abbrev pub IsEthernetFault : ℕ → Members → ConfigError → Type 0
+IsEthernetFault table ms f =
+    IsStray Of.Ethernet ms table f
+    ⊎ ((first_unknown ethernet_keys ms ≡ None) × (IsFault IsNetwork Key.Network ms table f
     ⊎ (IsRight IsNetwork Key.Network ms × (IsFault IsEncapsulation Key.Encapsulation ms table f
     ⊎ (IsRight IsEncapsulation Key.Encapsulation ms × (IsFault IsIpAddress Key.Address ms table f
     ⊎ (IsRight IsIpAddress Key.Address ms × (IsFault (IsCount 65535) Key.UdpPort ms table f
     ⊎ (IsRight (IsCount 65535) Key.UdpPort ms × (IsWrong (IsCount 65535) Key.Cost ms table f
-    ⊎ (IsRightOr (IsCount 65535) Key.Cost ms × IsEthernetFault ms table f)))))))))))
+    ⊎ (IsRightOr (IsCount 65535) Key.Cost ms × IsEthernetFieldFault ms table f)))))))))))
 
 -- ---- a port of any kind: RFC 1234 if the table gives none
 
 abbrev pub IsTableOfKind : Members → PortConfig → Type 0
 IsTableOfKind ms (Rfc1234 p) = IsPortTable ms p
-IsTableOfKind ms (Frames p) = IsFramesTable ms p
+IsTableOfKind ms (Ethernet p) = IsEthernetTable ms p
 IsTableOfKind ms (Ipxnet p) = IsIpxnetTable ms p
 
 -- a table describes a port
@@ -61,7 +61,7 @@ IsPortOfKind ms p = HoldsOr IsKind Key.Kind ms Of.Rfc1234 (kind_of_port p) × Is
 
 abbrev pub IsFaultOfKind : Kind → ℕ → Members → ConfigError → Type 0
 IsFaultOfKind Of.Rfc1234 table ms f = IsPortFault table ms f
-IsFaultOfKind Of.Frames table ms f = IsFramesFault table ms f
+IsFaultOfKind Of.Ethernet table ms f = IsEthernetFault table ms f
 IsFaultOfKind Of.Ipxnet table ms f = IsIpxnetFault table ms f
 
 -- its first fault: that of its kind, followed by those of a port of that kind

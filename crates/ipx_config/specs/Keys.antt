@@ -60,8 +60,8 @@ first_unknown keys (member name d ms) =
 abbrev pub port_keys : List Key
 port_keys = Kind ∷ Network ∷ Address ∷ UdpPort ∷ Cost ∷ Peers ∷ Routers ∷ Accept ∷ Directed ∷ []
 
-abbrev pub frames_keys : List Key
-frames_keys =
+abbrev pub ethernet_keys : List Key
+ethernet_keys =
     Kind ∷ Network ∷ Encapsulation ∷ Address ∷ UdpPort ∷ Cost ∷ Remotes ∷ Node ∷ Switch ∷ Directed ∷ []
 
 abbrev pub ipxnet_keys : List Key
@@ -71,12 +71,12 @@ ipxnet_keys =
 -- the keys of a port of this kind, and the keys of other kinds that this kind does not have
 abbrev pub keys_of_kind : PortKind → List Key
 keys_of_kind Of.Rfc1234 = port_keys
-keys_of_kind Of.Frames = frames_keys
+keys_of_kind Of.Ethernet = ethernet_keys
 keys_of_kind Of.Ipxnet = ipxnet_keys
 
 abbrev pub keys_of_other_kinds : PortKind → List Key
 keys_of_other_kinds Of.Rfc1234 = Encapsulation ∷ Remotes ∷ Node ∷ Switch ∷ Clients ∷ Join ∷ []
-keys_of_other_kinds Of.Frames = Peers ∷ Routers ∷ Accept ∷ Clients ∷ Join ∷ []
+keys_of_other_kinds Of.Ethernet = Peers ∷ Routers ∷ Accept ∷ Clients ∷ Join ∷ []
 keys_of_other_kinds Of.Ipxnet = Routers ∷ Encapsulation ∷ Remotes ∷ Switch ∷ []
 
 abbrev pub site_keys : List Key

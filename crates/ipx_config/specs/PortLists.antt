@@ -7,23 +7,23 @@ use Rattle.ipx_carrier.specs.Traces.{v4_at}
 use Rattle.ipx_config.specs.declared.site.EthernetPortConfig.{EthernetPortConfig}
 use Rattle.ipx_config.specs.declared.ipxnet_port.IpxnetPortConfig.{IpxnetPortConfig}
 use Rattle.ipx_config.specs.declared.site.PortConfig.{PortConfig}
-use Rattle.ipx_config.specs.declared.site.PortConfig.TheVariants.{Rfc1234, Frames, Ipxnet}
+use Rattle.ipx_config.specs.declared.site.PortConfig.TheVariants.{Rfc1234, Ethernet, Ipxnet}
 use Rattle.ipx_config.specs.declared.site.Rfc1234PortConfig.{Rfc1234PortConfig}
 
 -- a port, if it is of that kind
 abbrev pub datagrams_in : PortConfig → List Rfc1234PortConfig
 datagrams_in (Rfc1234 p) = p ∷ []
-datagrams_in (Frames p) = []
+datagrams_in (Ethernet p) = []
 datagrams_in (Ipxnet p) = []
 
 abbrev pub ethernet_ports_in : PortConfig → List EthernetPortConfig
 ethernet_ports_in (Rfc1234 p) = []
-ethernet_ports_in (Frames p) = p ∷ []
+ethernet_ports_in (Ethernet p) = p ∷ []
 ethernet_ports_in (Ipxnet p) = []
 
 abbrev pub ipxnet_in : PortConfig → List IpxnetPortConfig
 ipxnet_in (Rfc1234 p) = []
-ipxnet_in (Frames p) = []
+ipxnet_in (Ethernet p) = []
 ipxnet_in (Ipxnet p) = p ∷ []
 
 -- those of each kind, in order

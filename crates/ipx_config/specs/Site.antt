@@ -86,9 +86,9 @@ IsFirstFault earlier table (item d ds) f = IsPortItemFault table d f
 -- a table describes a router
 pub record IsSite (ms : Members) (s : RouterConfig) : Type 0 where
   pub known : first_unknown site_keys ms ≡ None
-  pub status : HoldsIf IsFileName Key.MetricsFile ms s.status
-  pub tables : HoldsIf (IsOtherFileName s.status) Key.TablesFile ms s.tables
-  pub secret_file : HoldsIf (IsThirdFileName s.status s.tables) Key.SecretFile ms s.secret_file
+  pub metrics_file : HoldsIf IsFileName Key.MetricsFile ms s.metrics_file
+  pub tables_file : HoldsIf (IsOtherFileName s.metrics_file) Key.TablesFile ms s.tables_file
+  pub secret_file : HoldsIf (IsThirdFileName s.metrics_file s.tables_file) Key.SecretFile ms s.secret_file
   pub ports : (ds : Items) × Holds IsPortList Key.Port ms ds × ArePorts [] ds s.ports.items
   pub statics : AreStatics s.ports.items ms s.statics.items
 

@@ -9,7 +9,7 @@ use Rattle.ipx_carrier.specs.Mapping.{node_at}
 use Rattle.ipx_config.specs.declared.site.Accept.{Accept}
 use Rattle.ipx_config.specs.declared.site.Accept.TheVariants.{Any, Peers}
 use Rattle.ipx_config.specs.declared.site.PortConfig.{PortConfig}
-use Rattle.ipx_config.specs.declared.site.PortConfig.TheVariants.{Rfc1234, Frames, Ipxnet}
+use Rattle.ipx_config.specs.declared.site.PortConfig.TheVariants.{Rfc1234, Ethernet, Ipxnet}
 use Rattle.ipx_config.specs.declared.site.Rfc1234PortConfig.{Rfc1234PortConfig}
 
 -- a port of a file as one of the router: its node is two zero bytes and the IP address
@@ -19,7 +19,7 @@ router_port_of p = record { network = p.network; node = node_at p.address; cost 
 -- a port of any kind: the node of an Ethernet or ipxnet port is what its file gives
 abbrev pub router_port_of_kind : PortConfig → Port
 router_port_of_kind (Rfc1234 p) = router_port_of p
-router_port_of_kind (Frames p) = record { network = p.network; node = p.node; cost = p.cost }
+router_port_of_kind (Ethernet p) = record { network = p.network; node = p.node; cost = p.cost }
 router_port_of_kind (Ipxnet p) = record { network = p.network; node = p.node; cost = p.cost }
 
 abbrev pub router_ports : List PortConfig → List Port

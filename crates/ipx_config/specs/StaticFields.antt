@@ -18,7 +18,7 @@ use Rattle.ipx_config.specs.declared.fault.ConfigError.TheVariants.{Twin, Wrong}
 use Rattle.ipx_config.specs.declared.static_fields.NextHop.{NextHop}
 use Rattle.ipx_config.specs.declared.key.Key.TheVariants as Key
 use Rattle.ipx_config.specs.declared.site.PortConfig.{PortConfig}
-use Rattle.ipx_config.specs.declared.site.PortConfig.TheVariants.{Rfc1234, Frames, Ipxnet}
+use Rattle.ipx_config.specs.declared.site.PortConfig.TheVariants.{Rfc1234, Ethernet, Ipxnet}
 use Rattle.ipx_config.specs.Fields.{Holds, IsFault}
 use Rattle.ipx_config.specs.PortKinds.{network_of_kind}
 use Rattle.ipx_config.specs.Values.{is_peer, IsCount, IsIpAddress, IsNetwork, IsSocket}
@@ -45,12 +45,12 @@ IsPeerNodeFault peers ms table f = IsFault IsIpAddress Key.NextHop ms table f
 -- at an RFC 1234 port a peer, at an Ethernet port a station; at an ipxnet port there is none
 abbrev pub IsNamedNode : PortConfig → Members → Node → Type 0
 IsNamedNode (Rfc1234 p) ms node = IsPeerNode p.peers.items ms node
-IsNamedNode (Frames p) ms node = Holds IsStation Key.NextHop ms node
+IsNamedNode (Ethernet p) ms node = Holds IsStation Key.NextHop ms node
 IsNamedNode (Ipxnet p) ms node = ⊥
 
 abbrev pub IsNamedNodeFault : PortConfig → Members → ℕ → ConfigError → Type 0
 IsNamedNodeFault (Rfc1234 p) ms table f = IsPeerNodeFault p.peers.items ms table f
-IsNamedNodeFault (Frames p) ms table f = IsFault IsStation Key.NextHop ms table f
+IsNamedNodeFault (Ethernet p) ms table f = IsFault IsStation Key.NextHop ms table f
 IsNamedNodeFault (Ipxnet p) ms table f = f ≡ Wrong table Key.Port
 
 -- a node is the port's own

@@ -13,7 +13,7 @@ use Rattle.ipx_config.specs.declared.site.Accept.TheVariants.{Any, Peers}
 use Rattle.ipx_config.specs.declared.site.Directed.{Directed}
 use Rattle.ipx_config.specs.declared.site.Directed.TheVariants.{Never, Few, Always}
 use Rattle.ipx_config.specs.declared.site.Kind.{Kind}
-use Rattle.ipx_config.specs.declared.site.Kind.TheVariants.{Rfc1234, Frames, Ipxnet}
+use Rattle.ipx_config.specs.declared.site.Kind.TheVariants.{Rfc1234, Ethernet, Ipxnet}
 use Rattle.std.specs.Cmp.Lexicographic.{pointwise}
 
 -- eight hex digits give a network other than 0, which is the local network, and FFFFFFFF, which is all
@@ -89,7 +89,7 @@ IsDirected d it = as_str d ≡ Some (directed_word it)
 
 abbrev pub kind_text : Kind → List ℕ
 kind_text Rfc1234 = codes "rfc1234"
-kind_text Frames = codes "ethernet"
+kind_text Ethernet = codes "ethernet"
 kind_text Ipxnet = codes "ipxnet"
 
 -- the string "rfc1234", the string "ethernet" or the string "ipxnet"

@@ -8,12 +8,12 @@ ghost use Rattle.ipx_config.specs.Loading.{IsFileText};
 ghost use Rattle.ipx_config.specs.Site.{IsSiteText};
 ghost use Rattle.ipx_config.specs.declared.site.RouterConfig.{RouterConfig as ASiteFile};
 
+use crate::equality::{is_same_ip, is_same_node};
 use crate::escaped::Escaped;
 use crate::ethernet_values::station_at;
 use crate::files::{load_site, tell_no_memory};
 use crate::ipxnet_port::IpxnetPortConfig;
 use crate::peer_lines::peers_to_lines;
-use crate::sameness::{is_same_ip, is_same_node};
 use crate::site::{Accept, PortConfig, RouterConfig};
 use crate::start_lines::{dotted, end_to_text, port_to_text};
 use crate::static_lines::entries_to_lines;
@@ -202,7 +202,7 @@ fn reached_to_remarks(alloc: Global, whose: &str, port: &PortConfig) -> Result<S
     let own = port.place();
     match port {
         PortConfig::Rfc1234(port) => peers_to_remarks(alloc, whose, port.address, &port.peers),
-        PortConfig::Frames(port) => {
+        PortConfig::Ethernet(port) => {
             let end = format!(in alloc; "{whose}remote")?;
             ends_to_remarks(alloc, &end, own, &port.ends)
         }
@@ -279,8 +279,8 @@ fn file_to_line(alloc: Global, path: &str, site: &RouterConfig) -> Result<String
     ensures { IfOk result (λ t. string_bytes t ≡ file_line path.now site.now) }
 {
     let count = count_to_text(alloc, site.ports.len())?;
-    let status = status_to_text(alloc, &site.status)?;
-    let tables = file_name_to_text(alloc, ", tables_file ", &site.tables)?;
+    let status = status_to_text(alloc, &site.metrics_file)?;
+    let tables = file_name_to_text(alloc, ", tables_file ", &site.tables_file)?;
     let secret = file_name_to_text(alloc, ", secret_file ", &site.secret_file)?;
     format!(in alloc; "{path}: {count}, {status}{tables}{secret}\n")
 }

@@ -154,7 +154,7 @@ const PORT_KEYS: [Key; 9] = [
 ];
 
 /// The keys of an Ethernet port, in the order in which their faults are reported.
-const FRAMES_KEYS: [Key; 10] = [
+const ETHERNET_KEYS: [Key; 10] = [
     Key::Kind,
     Key::Network,
     Key::Encapsulation,
@@ -193,7 +193,7 @@ const NOT_RFC1234_KEYS: [Key; 6] = [
     Key::Join,
 ];
 
-const NOT_FRAMES_KEYS: [Key; 5] = [
+const NOT_ETHERNET_KEYS: [Key; 5] = [
     Key::Peers,
     Key::Routers,
     Key::Accept,
@@ -209,7 +209,7 @@ pub fn keys_of_kind(kind: Kind) -> &'static [Key]
 {
     match kind {
         Kind::Rfc1234 => &PORT_KEYS,
-        Kind::Frames => &FRAMES_KEYS,
+        Kind::Ethernet => &ETHERNET_KEYS,
         Kind::Ipxnet => &IPXNET_KEYS,
     }
 }
@@ -220,7 +220,7 @@ pub fn keys_of_other_kinds(kind: Kind) -> &'static [Key]
 {
     match kind {
         Kind::Rfc1234 => &NOT_RFC1234_KEYS,
-        Kind::Frames => &NOT_FRAMES_KEYS,
+        Kind::Ethernet => &NOT_ETHERNET_KEYS,
         Kind::Ipxnet => &NOT_IPXNET_KEYS,
     }
 }

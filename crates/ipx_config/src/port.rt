@@ -2,7 +2,7 @@
 
 ghost use Rattle.std.specs.Prelude.{◌≡◌, ◌⊎◌, IfErr, IfOk};
 ghost use Rattle.toml.specs.View.{table_view};
-ghost use Rattle.ipx_config.specs.EthernetTable.{IsFramesFault, IsFramesTable, IsKindFault, IsPortOfKind};
+ghost use Rattle.ipx_config.specs.EthernetTable.{IsEthernetFault, IsEthernetTable, IsKindFault, IsPortOfKind};
 ghost use Rattle.ipx_config.specs.Port.{IsPortTable, IsPortFault};
 
 use crate::ethernet_fields::{
@@ -53,16 +53,16 @@ fn rfc1234_port(
 }
 
 /// The Ethernet port that the table with this number describes.
-fn frames_port(
+fn ethernet_port(
     alloc: Global,
     table: &Table,
     number: usize,
 ) -> Result<EthernetPortConfig, ConfigError>
-    ensures port { IfOk result (IsFramesTable (table_view table.now)) }
+    ensures port { IfOk result (IsEthernetTable (table_view table.now)) }
     ensures fault { IfErr result (λ f.
-        (f ≡ ConfigError.OutOfMemory) ⊎ IsFramesFault number (table_view table.now) f) }
+        (f ≡ ConfigError.OutOfMemory) ⊎ IsEthernetFault number (table_view table.now) f) }
 {
-    refuse_stray(alloc, table, number, Kind::Frames)?;
+    refuse_stray(alloc, table, number, Kind::Ethernet)?;
     let network = network_in(table, number)?;
     let encapsulation = encapsulation_in(table, number)?;
     let address = address_in(table, number, Key::Address)?;
@@ -71,7 +71,7 @@ fn frames_port(
     let ends = remotes_in(alloc, table, number)?;
     let made = station_at(address, udp_port);
     let node = station_in(table, number, made)?;
-    let joined = switch_in(table, number)?;
+    let switched = switch_in(table, number)?;
     let directed = directed_in(table, number)?;
     Ok(EthernetPortConfig {
         network,
@@ -81,7 +81,7 @@ fn frames_port(
         cost,
         ends,
         node,
-        joined,
+        switched,
         directed,
     })
 }
@@ -94,7 +94,7 @@ pub fn port_of(alloc: Global, table: &Table, number: usize) -> Result<PortConfig
 {
     match kind_in(table, number)? {
         Kind::Rfc1234 => Ok(PortConfig::Rfc1234(rfc1234_port(alloc, table, number)?)),
-        Kind::Frames => Ok(PortConfig::Frames(frames_port(alloc, table, number)?)),
+        Kind::Ethernet => Ok(PortConfig::Ethernet(ethernet_port(alloc, table, number)?)),
         Kind::Ipxnet => Ok(PortConfig::Ipxnet(ipxnet_port_in(alloc, table, number)?)),
     }
 }

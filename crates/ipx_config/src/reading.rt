@@ -9,13 +9,13 @@ ghost use Rattle.ipx_config.specs.StaticLists.{HearsAtPorts};
 ghost use Rattle.ipx_config.specs.SitePorts.{router_ports};
 ghost use Rattle.ipx_config.specs.Site.{ArePorts, IsFirstFault, IsPortItem, IsPortItemFault, IsPortList, IsSite, IsSiteFault, IsSiteText, IsSiteTextFault, IsApart, IsRepeated, are_addresses_shared, are_places_shared, is_few, shared_place, twin_place};
 
+use crate::equality::is_same_ip;
 use crate::fault::ConfigError;
 use crate::fields::{
     file_name_in, other_file_name_in, refuse_unknown, required, third_file_name_in,
 };
 use crate::key::Key;
 use crate::port::port_of;
-use crate::sameness::is_same_ip;
 use crate::site::{PortConfig, RouterConfig};
 use crate::static_lists::statics_in;
 use crate::toml_text::table_of;
@@ -152,15 +152,21 @@ fn site_of(alloc: Global, table: &Table) -> Result<RouterConfig, ConfigError>
         (f ≡ ConfigError.OutOfMemory) ⊎ IsSiteFault (table_view table.now) f) }
 {
     refuse_unknown(alloc, table, 0, &KEYS)?;
-    let status = file_name_in(alloc, table, Key::MetricsFile)?;
-    let tables = other_file_name_in(alloc, table, Key::TablesFile, &status)?;
-    let secret_file = third_file_name_in(alloc, table, Key::SecretFile, &status, &tables)?;
+    let metrics_file = file_name_in(alloc, table, Key::MetricsFile)?;
+    let tables_file = other_file_name_in(alloc, table, Key::TablesFile, &metrics_file)?;
+    let secret_file = third_file_name_in(
+        alloc,
+        table,
+        Key::SecretFile,
+        &metrics_file,
+        &tables_file,
+    )?;
     let values = port_values(table)?;
     let ports = ports_of(alloc, values)?;
     let statics = statics_in(alloc, table, &ports)?;
     Ok(RouterConfig {
-        status,
-        tables,
+        metrics_file,
+        tables_file,
         secret_file,
         ports,
         statics,

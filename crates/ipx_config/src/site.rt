@@ -18,7 +18,7 @@ pub enum Kind {
     /// IPX in UDP datagrams, by RFC 1234.
     Rfc1234,
     /// An Ethernet port: an Ethernet frame in each datagram.
-    Frames,
+    Ethernet,
     /// A port for clients of DOSBox's ipxnet.
     Ipxnet,
 }
@@ -35,9 +35,11 @@ pub enum Accept {
 /// How many directed broadcasts from other networks may leave by a port.
 #[derive(Clone, Copy, PartialEq, Eq)]
 pub enum Directed {
+    /// `"none"` in the file.
     Never,
-    /// As many as a token bucket lets pass.
+    /// `"few"` in the file: as many as a token bucket lets pass.
     Few,
+    /// `"all"` in the file.
     Always,
 }
 
@@ -79,7 +81,7 @@ pub struct EthernetPortConfig {
     /// Its own node.
     pub node: Node,
     /// Whether it switches frames between its remotes.
-    pub joined: bool,
+    pub switched: bool,
     pub directed: Directed,
 }
 
@@ -87,7 +89,7 @@ pub struct EthernetPortConfig {
 #[derive(Drop)]
 pub enum PortConfig {
     Rfc1234(Rfc1234PortConfig),
-    Frames(EthernetPortConfig),
+    Ethernet(EthernetPortConfig),
     Ipxnet(IpxnetPortConfig),
 }
 
@@ -120,7 +122,7 @@ impl PortConfig {
     {
         match self {
             PortConfig::Rfc1234(port) => port.network,
-            PortConfig::Frames(port) => port.network,
+            PortConfig::Ethernet(port) => port.network,
             PortConfig::Ipxnet(port) => port.network,
         }
     }
@@ -131,7 +133,7 @@ impl PortConfig {
     {
         let (ip, udp_port) = match self {
             PortConfig::Rfc1234(port) => (port.address, port.udp_port),
-            PortConfig::Frames(port) => (port.address, port.udp_port),
+            PortConfig::Ethernet(port) => (port.address, port.udp_port),
             PortConfig::Ipxnet(port) => (port.address, port.udp_port),
         };
         socket_addr(ip, udp_port)
@@ -143,7 +145,7 @@ impl PortConfig {
     {
         match self {
             PortConfig::Rfc1234(port) => router_port(port),
-            PortConfig::Frames(port) => port_at(port.network, port.node, port.cost),
+            PortConfig::Ethernet(port) => port_at(port.network, port.node, port.cost),
             PortConfig::Ipxnet(port) => port_at(port.network, port.node, port.cost),
         }
     }
@@ -153,7 +155,7 @@ impl PortConfig {
     {
         match self {
             PortConfig::Rfc1234(_) => Kind::Rfc1234,
-            PortConfig::Frames(_) => Kind::Frames,
+            PortConfig::Ethernet(_) => Kind::Ethernet,
             PortConfig::Ipxnet(_) => Kind::Ipxnet,
         }
     }
@@ -164,7 +166,7 @@ impl PortConfig {
     {
         match self {
             PortConfig::Rfc1234(port) => port.directed,
-            PortConfig::Frames(port) => port.directed,
+            PortConfig::Ethernet(port) => port.directed,
             PortConfig::Ipxnet(port) => port.directed,
         }
     }
@@ -174,9 +176,9 @@ impl PortConfig {
 #[derive(Drop)]
 pub struct RouterConfig {
     /// The path of the metrics file, if any.
-    pub status: Option<String>,
+    pub metrics_file: Option<String>,
     /// The path of the table file, if any.
-    pub tables: Option<String>,
+    pub tables_file: Option<String>,
     /// The path of the file of the secret, if any.
     pub secret_file: Option<String>,
     /// Its ports, 1 to 16. The first is port 1.

@@ -2,7 +2,7 @@
 
 ghost use Rattle.std.specs.Prelude.{◌≡◌, IfOk, map, string_bytes};
 ghost use Rattle.std.specs.List.{flat_map};
-ghost use Rattle.ipx_config.specs.Checked.{clients_text, dealings_text, directed_text, dotted_text, frames_text, ipxnet_text, join_text, joined_text, others_text, place_text, port_text, port_texts, reached_text, rfc1234_text, routers_text, ethernet_end_text, ethernet_text};
+ghost use Rattle.ipx_config.specs.Checked.{clients_text, dealings_text, directed_text, dotted_text, ethernet_fields_text, ipxnet_text, join_text, switch_text, others_text, place_text, port_text, port_texts, reached_text, rfc1234_text, routers_text, ethernet_end_text, ethernet_text};
 
 use crate::ethernet_values::word_of;
 use crate::ipxnet_port::IpxnetPortConfig;
@@ -116,35 +116,35 @@ fn ends_to_text(alloc: Global, ends: &[SocketAddrV4]) -> Result<String, AllocErr
 }
 
 /// The word that says that a port does not switch frames between its remotes.
-fn apart(joined: bool) -> &'static str
-    ensures { result.now ≡ joined_text joined }
+fn switch_text(switched: bool) -> &'static str
+    ensures { result.now ≡ switch_text switched }
 {
-    if joined { "" } else { " switch false" }
+    if switched { "" } else { " switch false" }
 }
 
-fn ethernet_to_text(alloc: Global, port: &EthernetPortConfig) -> Result<String, AllocError>
-    ensures { IfOk result (λ t. string_bytes t ≡ ethernet_text port.now) }
+fn ethernet_fields_to_text(alloc: Global, port: &EthernetPortConfig) -> Result<String, AllocError>
+    ensures { IfOk result (λ t. string_bytes t ≡ ethernet_fields_text port.now) }
 {
     let cost = port.cost;
     let ends = ends_to_text(alloc, &port.ends)?;
-    let apart = apart(port.joined);
+    let switch = switch_text(port.switched);
     let directed = directed(port.directed);
-    format!(in alloc; "cost {cost} remotes{ends}{apart}{directed}")
+    format!(in alloc; "cost {cost} remotes{ends}{switch}{directed}")
 }
 
 /// An Ethernet port with its number: `port 2 network .. node .. ethernet .. udp .. cost .. remotes ..`.
-fn frames_to_text(
+fn ethernet_to_text(
     alloc: Global,
     number: usize,
     port: &EthernetPortConfig,
 ) -> Result<String, AllocError>
-    ensures { IfOk result (λ t. string_bytes t ≡ frames_text number port.now) }
+    ensures { IfOk result (λ t. string_bytes t ≡ ethernet_text number port.now) }
 {
     let place = place_to_text(alloc, port.network, port.node)?;
     let word = word_of(port.encapsulation);
     let reached = reached_to_text(alloc, port.address, port.udp_port)?;
-    let wire = ethernet_to_text(alloc, port)?;
-    format!(in alloc; "port {number} {place} ethernet {word} udp {reached} {wire}")
+    let fields = ethernet_fields_to_text(alloc, port)?;
+    format!(in alloc; "port {number} {place} ethernet {word} udp {reached} {fields}")
 }
 
 /// The places of joined routers, if there are any.
@@ -190,7 +190,7 @@ pub fn port_to_text(alloc: Global, number: usize, port: &PortConfig) -> Result<S
 {
     match port {
         PortConfig::Rfc1234(port) => rfc1234_to_text(alloc, number, port),
-        PortConfig::Frames(port) => frames_to_text(alloc, number, port),
+        PortConfig::Ethernet(port) => ethernet_to_text(alloc, number, port),
         PortConfig::Ipxnet(port) => ipxnet_to_text(alloc, number, port),
     }
 }

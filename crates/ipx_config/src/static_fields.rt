@@ -82,7 +82,7 @@ fn named_node_in(table: &Table, number: usize, port: &PortConfig) -> Result<Node
 {
     match port {
         PortConfig::Rfc1234(port) => peer_node_in(table, number, &port.peers),
-        PortConfig::Frames(_) => station_node_in(table, number),
+        PortConfig::Ethernet(_) => station_node_in(table, number),
         PortConfig::Ipxnet(_) => Err(ConfigError::Wrong(number, Key::Port)),
     }
 }

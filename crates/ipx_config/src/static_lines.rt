@@ -91,7 +91,7 @@ fn is_no_router(port: &PortConfig, ip: [u8; 4]) -> bool
             Some(routers) => !routers.contains(&ip),
             None => false,
         },
-        PortConfig::Frames(_) | PortConfig::Ipxnet(_) => false,
+        PortConfig::Ethernet(_) | PortConfig::Ipxnet(_) => false,
     }
 }
 

@@ -34,7 +34,7 @@ fn keys_of(table: usize) -> &'static str {
 fn word_of_kind(kind: Kind) -> &'static str {
     match kind {
         Kind::Rfc1234 => "rfc1234",
-        Kind::Frames => "ethernet",
+        Kind::Ethernet => "ethernet",
         Kind::Ipxnet => "ipxnet",
     }
 }
@@ -43,7 +43,7 @@ fn word_of_kind(kind: Kind) -> &'static str {
 fn keys_of_port(kind: Kind) -> &'static str {
     match kind {
         Kind::Rfc1234 => "kind, network, address, udp_port, cost, peers, routers, accept, directed",
-        Kind::Frames =>
+        Kind::Ethernet =>
             "kind, network, encapsulation, address, udp_port, cost, remotes, node, switch, directed",
         Kind::Ipxnet => {
             "kind, network, address, udp_port, cost, node, clients, accept, peers, join, directed"

@@ -96,7 +96,7 @@ pub fn kind_of(value: &Value) -> Option<Kind>
 {
     match value.as_str()? {
         "rfc1234" => Some(Kind::Rfc1234),
-        "ethernet" => Some(Kind::Frames),
+        "ethernet" => Some(Kind::Ethernet),
         "ipxnet" => Some(Kind::Ipxnet),
         _ => None,
     }

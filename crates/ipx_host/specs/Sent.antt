@@ -36,7 +36,7 @@ pub record IsDialing {K : Type 0} (file : HostConfig) (to : Address) (p : SendSt
   pub last : p.core.endpoint.links.last ≡ id
   pub count : count_of p.core.endpoint.links ≡ 1
   pub alone : (q : ℕ) → q ≢ id → held_at p.core.endpoint q ≡ None
-  pub deaf : (s : Socket) → buffers_at p.core.endpoint s ≡ None
+  pub no_listener : (s : Socket) → buffers_at p.core.endpoint s ≡ None
   pub paced : p.core.paced ≡ Some (record { id = id; pacer = made_pacer })
   pub unseen : p.noted ≡ noted false None
   pub unread : p.read ≡ false

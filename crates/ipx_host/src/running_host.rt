@@ -144,7 +144,7 @@ fn core_of(alloc: Global, file: &HostConfig) -> Result<PacedHostCore, StartFault
     ensures links { IfOk result (λ c. (id : ℕ) → held_at c.endpoint id ≡ None) }
     ensures last { IfOk result (λ c. c.endpoint.links.last ≡ 0) }
     ensures count { IfOk result (λ c. count_of c.endpoint.links ≡ 0) }
-    ensures deaf { IfOk result (λ c. (socket : Socket) → buffers_at c.endpoint socket ≡ None) }
+    ensures no_listener { IfOk result (λ c. (socket : Socket) → buffers_at c.endpoint socket ≡ None) }
     ensures nobody { IfOk result (λ c. c.endpoint.heard ≡ None) }
     ensures accepted { IfOk result (λ c. c.came ≡ None) }
     ensures unpaced { IfOk result (λ c. c.paced ≡ None) }
@@ -193,7 +193,7 @@ impl<'a, R: Net + Log + Clock> RunningHost<'a, R> {
         ensures links { IfOk result (λ s. (id : ℕ) → held_at s.core.endpoint id ≡ None) }
         ensures last { IfOk result (λ s. s.core.endpoint.links.last ≡ 0) }
         ensures count { IfOk result (λ s. count_of s.core.endpoint.links ≡ 0) }
-        ensures deaf { IfOk result (λ s.
+        ensures no_listener { IfOk result (λ s.
             (socket : Socket) → buffers_at s.core.endpoint socket ≡ None) }
         ensures nobody { IfOk result (λ s. s.core.endpoint.heard ≡ None) }
         ensures accepted { IfOk result (λ s. s.core.came ≡ None) }

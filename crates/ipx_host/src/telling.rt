@@ -1,7 +1,7 @@
 //! Warnings about problems of a host that may happen again and again.
 
 ghost use Rattle.std.specs.Prelude.{◌≡◌, replicate};
-ghost use Rattle.ipx_sockets.specs.Moments.{counts_of, AreLoggedIfDue, untold};
+ghost use Rattle.ipx_sockets.specs.Moments.{counts_of, AreLoggedIfDue, never_logged};
 ghost use Rattle.ipx_host.specs.HostLines.{counts_of_host};
 
 use ipx_sockets::{FilterDrops, ThrottledLog, Warning, tell_each};
@@ -50,7 +50,7 @@ fn warnings_in(counts: Counts) -> [Warning; CAUSES]
 impl Telling {
     /// Creates warnings of which none was reported yet.
     pub fn new() -> Telling
-        ensures { result.causes ≡ replicate 6 untold }
+        ensures { result.causes ≡ replicate 6 never_logged }
     {
         Telling {
             causes: [ThrottledLog::new(); CAUSES],

@@ -9,10 +9,10 @@ pub hop_ports-no_fault : (f : NewFault) → ports_fault hop_routing.ports ≡ So
 unfolding first_twin
 hop_ports-no_fault f e = cc
 
-pub hop_routing-new : (r : RouterView) → r.ports ≡ hop_routing.ports → (r.routes.offers ≡ []) × (r.services.offers ≡ []) × (r.told ≡ None) → (r.routes.most ≡ 1024) × (r.services.most ≡ 4096) → r ≡ hop_routing
+pub hop_routing-new : (r : RouterView) → r.ports ≡ hop_routing.ports → (r.routes.offers ≡ []) × (r.services.offers ≡ []) × (r.advertised_at ≡ None) → (r.routes.capacity ≡ 1024) × (r.services.capacity ≡ 4096) → r ≡ hop_routing
 hop_routing-new r ports none room = λ i. record {
   ports = ports i;
-  routes = record { most = room.0 i; offers = none.0 i };
-  services = record { most = room.1 i; offers = none.1 i };
-  told = none.2 i;
+  routes = record { capacity = room.0 i; offers = none.0 i };
+  services = record { capacity = room.1 i; offers = none.1 i };
+  advertised_at = none.2 i;
 }

@@ -25,9 +25,9 @@ second_port = record {
 abbrev pub hop_routing : RouterView
 hop_routing = record {
   ports = first_port ∷ second_port ∷ [];
-  routes = record { most = 1024; offers = [] };
-  services = record { most = 4096; offers = [] };
-  told = None;
+  routes = record { capacity = 1024; offers = [] };
+  services = record { capacity = 4096; offers = [] };
+  advertised_at = None;
 }
 
 -- that router's answer to bytes that it receives on port 1

@@ -31,7 +31,7 @@ use Rattle.ipx_ipxnet_ports.proofs.Handing.{hands_after}
 -- ---- a server keeps its port, and how many clients it may have
 
 abbrev port_in : ServerView → ServerPort × ℕ
-port_in l = (l.port, l.most)
+port_in l = (l.port, l.max_clients)
 
 giving_stays : (given : Result Recipients ServerDrop) (now : ℕ) (l : ServerView) → port_in (server_giving given now l) ≡ port_in l
 giving_stays (Ok takers) now l = refl
@@ -43,7 +43,7 @@ ports_stay servers port l after there same =
 
 pub hearing_leaves_ports : (now most : ℕ) (d : PlaceDatagram) (came : List PlaceDatagram) (room : List ℕ) (up : Option ℕ) (old new : ServersView) → HearsAtServer now most d came room up old new → server_ports new.servers ≡ server_ports old.servers
 hearing_leaves_ports now most d came room up old new r =
-    ap (map port_in) r.servers ∙ ports_stay old.servers d.port r.server r.after r.at_port (ap (λ (p : ServerPort). (p, r.after.most)) r.hears.stays.0 ∙ ap (λ (n : ℕ). (r.server.port, n)) r.hears.stays.1)
+    ap (map port_in) r.servers ∙ ports_stay old.servers d.port r.server r.after r.at_port (ap (λ (p : ServerPort). (p, r.after.max_clients)) r.hears.stays.0 ∙ ap (λ (n : ℕ). (r.server.port, n)) r.hears.stays.1)
 
 pub sending_leaves_ports : (now port : ℕ) (node : Node) (packet : List ℕ) (sent : PacketSent) (old new : ServersView) → SendsThroughServer now port node packet sent old new → server_ports new.servers ≡ server_ports old.servers
 sending_leaves_ports now port node packet sent old new r =

@@ -37,7 +37,7 @@ by_servers p = if nat_lt max_client_bytes (length p.bytes) then None else Some (
 
 -- what no call changes of servers: the port of each, and how many clients it may have
 abbrev pub server_ports : List ServerView → List (ServerPort × ℕ)
-server_ports servers = map (λ l. (l.port, l.most)) servers
+server_ports servers = map (λ l. (l.port, l.max_clients)) servers
 
 -- the clients that takers reach, in the order in which the server has them
 abbrev pub clients_reached : ServerView → Recipients → List Client
@@ -86,7 +86,7 @@ pub record HearsBytes (l : ServerView) (from : SocketAddrV4) (bytes : List ℕ) 
       → after ≡ server_dropping (Malformed f) (server_aged now l)
   pub packet : (p : PacketView) → BeginsWith bytes p → heard ≡ packet_hears l from p (length bytes) now
   pub becomes : (p : PacketView) → BeginsWith bytes p → after ≡ server_heard l from p (length bytes) now
-  pub stays : (after.port ≡ l.port) × (after.most ≡ l.most) × (after.routers ≡ l.routers)
+  pub stays : (after.port ≡ l.port) × (after.max_clients ≡ l.max_clients) × (after.routers ≡ l.routers)
       × (after.pinged ≡ l.pinged)
 
 -- bytes that a server received are sent on. All that it sends is handed to the sockets: the answer, if there

@@ -15,7 +15,7 @@ use Rattle.ipx_router.specs.OutcomeView as Outcomes
 use Rattle.ipx_router.specs.Knowledge.{known_at}
 use Rattle.ipx_router.specs.RouterPackets.{SendingView}
 use Rattle.ipx_router.specs.RouterView.{RouterView}
-use Rattle.ipx_router.specs.Telling.{HasToTell, is_due}
+use Rattle.ipx_router.specs.Advertisements.{HasToTell, is_due}
 use Rattle.ipx_router.specs.OutOfMemoryCases.{RunsOutOfMemory}
 use Rattle.spx_theory.specs.Note.{Note}
 use Rattle.spx_theory.specs.HostSteps.{arrival_notes, unit_notes, whole_notes}
@@ -79,7 +79,7 @@ PollIsSent v host now = (r : Node × ℕ) × (room written : List ℕ) × (new :
 -- has something to advertise. Or memory is needed for the packets that it gives
 abbrev pub RouterPollNeedsMemory : RouterNow → ℕ → Type 0
 RouterPollNeedsMemory before now = (before.started ≡ false)
-    ⊎ ((is_due before.router.told now ≡ true) × HasToTell (known_at before.router now) now)
+    ⊎ ((is_due before.router.advertised_at now ≡ true) × HasToTell (known_at before.router now) now)
     ⊎ ((after : RouterNow) × (sent : List SendingView) × IsPolled before after now sent
     × (0 < length sent))
 

@@ -38,9 +38,9 @@ pub record IsRouterOf (ports : Vec Port Global) (r : RouterNow) : Type 0 where
   pub ports_are : r.router.ports ≡ ports.items
   pub routes : r.router.routes.offers ≡ []
   pub services : r.router.services.offers ≡ []
-  pub most_routes : r.router.routes.most ≡ 1024
-  pub most_services : r.router.services.most ≡ 4096
-  pub told : r.router.told ≡ None
+  pub most_routes : r.router.routes.capacity ≡ 1024
+  pub most_services : r.router.services.capacity ≡ 4096
+  pub told : r.router.advertised_at ≡ None
   pub started : r.started ≡ false
 
 -- each one in order

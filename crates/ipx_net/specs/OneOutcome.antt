@@ -25,7 +25,7 @@ pub record AreAlikeRouters (x y : RouterNow) : Type 0 where
   pub kept : KeepsAllButOffers x.router y.router
   pub routes : HoldsRoutes x.router.routes (routes_in y.router.routes)
   pub services : HoldsServices x.router.services (services_in y.router.services)
-  pub told : y.router.told ≡ x.router.told
+  pub told : y.router.advertised_at ≡ x.router.advertised_at
   pub started : y.started ≡ x.started
 
 -- two networks with alike hosts and alike routers that are otherwise the same

@@ -6,7 +6,7 @@ use Rattle.ipx_router.specs.declared.port.Port.{Port}
 use Rattle.ipx_router.specs.Knowledge.{HoldsKnown, KeepsAllButOffers, known_at, tables}
 use Rattle.ipx_router.specs.RouterPackets.{SendingView}
 use Rattle.ipx_router.specs.Starting.{AreStarts}
-use Rattle.ipx_router.specs.Telling.{TellsIfDue}
+use Rattle.ipx_router.specs.Advertisements.{TellsIfDue}
 use Rattle.spx_theory.specs.World.{AtPort, ParcelView}
 use Rattle.ipx_net.specs.declared.routers.RouterNow.{RouterNow}
 
@@ -38,7 +38,7 @@ pub record IsPolled (old new : RouterNow) (now : ℕ) (sent : List SendingView) 
   pub told : List SendingView
   pub are : sent ≡ asked ++ told
   pub asks : MatchBool old.started (asked ≡ []) (AreStarts 1 old.router.ports asked)
-  pub tells : TellsIfDue (known_at old.router now) old.router.told now told new.router.told
+  pub tells : TellsIfDue (known_at old.router now) old.router.advertised_at now told new.router.advertised_at
   pub known : HoldsKnown (known_at old.router now) (tables new.router)
   pub rest : KeepsAllButOffers old.router new.router
   pub started : new.started ≡ true

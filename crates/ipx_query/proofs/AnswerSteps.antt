@@ -31,7 +31,7 @@ Outcome ended heard a = MatchResult heard
     (λ f. (f ≡ Full) × (a ≡ Some (record { ended = ended; cut = true })))
 
 module _ (own : Address) (node : Node) (now : ℕ) (old : Table Network RouteMetric) (body tail : List ℕ) (entries : List RipEntry) (source : Source) (from : source ≡ source_at node) (ended : Bool) (is_ended : ended ≡ nat_lt (length entries) 50)
-    (none : rip_fault body ≡ None) (is : IsRip (rip.Response entries) body tail) (new : Table Network RouteMetric) (most : new.most ≡ old.most) where
+    (none : rip_fault body ≡ None) (is : IsRip (rip.Response entries) body tail) (new : Table Network RouteMetric) (most : new.capacity ≡ old.capacity) where
   rip_answer : (a : Option AnswerHeard) (cut : Bool) → a ≡ Some (record { ended = ended; cut = cut }) → TakesRoutes own node now entries old cut new → HearsRip own node now old body a new
   rip_answer a cut said takes =
       subst (λ (f : Option ControlFault). MatchOption f ((m : RipView) × (tail : List ℕ) × IsRip m body tail × HearsRipMessage own node now old m a new) (λ f. (a ≡ None) × (new ≡ old))) (sym none)
@@ -60,7 +60,7 @@ module _ (own : Address) (node : Node) (now : ℕ) (old : Table Network RouteMet
       (entries, tail, is, most, subst (λ (s : Source). (n : ℕ) × HeardRoutes (lone_port own) s now entries (routes_in old) n new × AtEntry entries n (GrowsByRoute (lone_port own) s new)) from (err.0, err.1, err.3 wants))
 
 module _ (node : Node) (now : ℕ) (old : Table ServiceKey ServiceMetric) (body tail : List ℕ) (nearest : Bool) (entries : List ServiceEntry) (source : Source) (from : source ≡ source_at node) (ended : Bool) (is_ended : ended ≡ nat_lt (length entries) 7)
-    (none : sap_fault body ≡ None) (is : IsSap (sap.Response nearest entries) body tail) (new : Table ServiceKey ServiceMetric) (most : new.most ≡ old.most) where
+    (none : sap_fault body ≡ None) (is : IsSap (sap.Response nearest entries) body tail) (new : Table ServiceKey ServiceMetric) (most : new.capacity ≡ old.capacity) where
   sap_answer : (a : Option AnswerHeard) (cut : Bool) → a ≡ Some (record { ended = ended; cut = cut }) → TakesServices node now entries old cut new → HearsSap node now old body a new
   sap_answer a cut said takes =
       subst (λ (f : Option ControlFault). MatchOption f ((m : SapView) × (tail : List ℕ) × IsSap m body tail × HearsSapMessage node now old m a new) (λ f. (a ≡ None) × (new ≡ old))) (sym none)

@@ -71,14 +71,14 @@ source_at node = record { port = 1; neighbour = node }
 -- table is full
 abbrev pub TakesRoutes : Address → Node → ℕ → List RipEntry → Table Network RouteMetric → Bool
     → Table Network RouteMetric → Type 0
-TakesRoutes own node now entries old cut new = (new.most ≡ old.most) × MatchBool cut
+TakesRoutes own node now entries old cut new = (new.capacity ≡ old.capacity) × MatchBool cut
     ((n : ℕ) × HeardRoutes (lone_port own) (source_at node) now entries (routes_in old) n new
     × AtEntry entries n (IsFullForRoute (lone_port own) (source_at node) new))
     (HeardRoutes (lone_port own) (source_at node) now entries (routes_in old) (length entries) new)
 
 abbrev pub TakesServices : Node → ℕ → List ServiceEntry → Table ServiceKey ServiceMetric → Bool
     → Table ServiceKey ServiceMetric → Type 0
-TakesServices node now entries old cut new = (new.most ≡ old.most) × MatchBool cut
+TakesServices node now entries old cut new = (new.capacity ≡ old.capacity) × MatchBool cut
     ((n : ℕ) × HeardServices (source_at node) now entries (services_in old) n new
     × AtEntry entries n (IsFullForService (source_at node) new))
     (HeardServices (source_at node) now entries (services_in old) (length entries) new)
@@ -157,13 +157,13 @@ AskHears old bytes now new = MatchOption (ipx_fault bytes)
 abbrev pub RipBodyOutOfMemory : Address → Node → ℕ → Table Network RouteMetric → List ℕ
     → Table Network RouteMetric → Type 0
 RipBodyOutOfMemory own node now old body new = (entries : List RipEntry) × (tail : List ℕ)
-    × IsRip (rip.Response entries) body tail × (new.most ≡ old.most)
+    × IsRip (rip.Response entries) body tail × (new.capacity ≡ old.capacity)
     × HearingRoutesOutOfMemory (lone_port own) (routes_in old) (source_at node) now entries new
 
 abbrev pub SapBodyOutOfMemory : Node → ℕ → Table ServiceKey ServiceMetric → List ℕ
     → Table ServiceKey ServiceMetric → Type 0
 SapBodyOutOfMemory node now old body new = (nearest : Bool) × (entries : List ServiceEntry)
-    × (tail : List ℕ) × IsSap (sap.Response nearest entries) body tail × (new.most ≡ old.most)
+    × (tail : List ℕ) × IsSap (sap.Response nearest entries) body tail × (new.capacity ≡ old.capacity)
     × HearingServicesOutOfMemory (services_in old) (source_at node) now entries new
 
 abbrev pub BodyOutOfMemory : TableQuery → AskView → Node → List ℕ → ℕ → AskView → Type 0

@@ -45,8 +45,8 @@ pub record IsNewAsk (own : Address) (question : TableQuery) (nodes : List Node)
   pub unheard : ask.heard_at ≡ 0
   pub no_routes : ask.routes.offers ≡ []
   pub no_services : ask.services.offers ≡ []
-  pub most_routes : ask.routes.most ≡ space_for 1024 (length nodes)
-  pub most_services : ask.services.most ≡ space_for 4096 (length nodes)
+  pub most_routes : ask.routes.capacity ≡ space_for 1024 (length nodes)
+  pub most_services : ask.services.capacity ≡ space_for 4096 (length nodes)
   pub whole : ask.cut ≡ false
 
 -- how long ago the first query was asked for; 0 if it was not yet

@@ -43,7 +43,7 @@ pub fn hear_routes(
         → AtEntry entries.entry n (IsFullForRoute (lone_port own) source routes.new))
         × (f ≡ TableFault.OutOfMemory
         → AtEntry entries.entry n (GrowsByRoute (lone_port own) source routes.new))) }
-    ensures most { routes.new.most ≡ routes.old.most }
+    ensures capacity { routes.new.capacity ≡ routes.old.capacity }
     ensures valid { IsTable network_cmp routes.new }
 {
     for entry in entries {
@@ -75,7 +75,7 @@ pub fn hear_services(
         × (f ≡ TableFault.Full → AtEntry entries.entry n (IsFullForService source services.new))
         × (f ≡ TableFault.OutOfMemory
         → AtEntry entries.entry n (GrowsByService source services.new))) }
-    ensures most { services.new.most ≡ services.old.most }
+    ensures capacity { services.new.capacity ≡ services.old.capacity }
     ensures valid { IsTable service_key_cmp services.new }
 {
     for entry in entries {

@@ -22,13 +22,13 @@ usual_narrow = record { burst = 64; per_second = 32 }
 -- the limit of general queries that come by a port: lower for all clients of an ipxnet port together
 abbrev pub query_limit : Kind → RateLimit
 query_limit Of.Rfc1234 = usual
-query_limit Of.Frames = usual
+query_limit Of.Ethernet = usual
 query_limit Of.Ipxnet = record { burst = 2; per_second = 1 }
 
 -- the limit of narrow queries that come by it: higher, since each is answered by one packet
 abbrev pub narrow_limit : Kind → RateLimit
 narrow_limit Of.Rfc1234 = usual_narrow
-narrow_limit Of.Frames = usual_narrow
+narrow_limit Of.Ethernet = usual_narrow
 narrow_limit Of.Ipxnet = record { burst = 8; per_second = 4 }
 
 -- the limit of directed broadcasts that leave by it: none, few, or all
@@ -40,7 +40,7 @@ directed_bucket Always = None
 -- a node of the port's network can be a group of stations: only on an Ethernet
 abbrev pub has_group_nodes : Kind → Bool
 has_group_nodes Of.Rfc1234 = false
-has_group_nodes Of.Frames = true
+has_group_nodes Of.Ethernet = true
 has_group_nodes Of.Ipxnet = false
 
 -- a port begins with full buckets

@@ -7,10 +7,10 @@ use Rattle.ipx_control.specs.Rip.{IsRip}
 use Rattle.ipx_control.specs.Rip as rip
 use Rattle.ipx_control.specs.Sap.{IsSap}
 use Rattle.ipx_control.specs.Sap as sap
-use Rattle.ipx_router.specs.declared.classify.Concern.{Concern}
-use Rattle.ipx_router.specs.declared.classify.Concern.TheVariants as concerns
+use Rattle.ipx_router.specs.declared.classify.PacketClass.{PacketClass}
+use Rattle.ipx_router.specs.declared.classify.PacketClass.TheVariants as classes
 use Rattle.ipx_router.specs.declared.port.Port.{Port}
-use Rattle.ipx_router.specs.Classify.{concern_of}
+use Rattle.ipx_router.specs.Classify.{class_of}
 use Rattle.ipx_router.specs.Replying.{asks_all}
 use Rattle.ipx_carrier.specs.Mapping.{ip_at}
 use Rattle.ipx_carrier.specs.Turns.{Given}
@@ -33,16 +33,16 @@ abbrev pub AsksAllServices : List ℕ → Type 0
 AsksAllServices body = (kind : ℕ) × (tail : List ℕ) × IsSap (sap.Query false kind) body tail
 
 -- a body asks for all, given the kind of its packet: RIP or SAP for the router
-abbrev pub AsksForAll : Concern → List ℕ → Type 0
-AsksForAll concerns.Rip body = AsksAllRoutes body
-AsksForAll concerns.Sap body = AsksAllServices body
-AsksForAll concerns.Forward body = ⊥
-AsksForAll (concerns.Dropped reason) body = ⊥
+abbrev pub AsksForAll : PacketClass → List ℕ → Type 0
+AsksForAll classes.Rip body = AsksAllRoutes body
+AsksForAll classes.Sap body = AsksAllServices body
+AsksForAll classes.Forward body = ⊥
+AsksForAll (classes.Dropped reason) body = ⊥
 
 -- bytes are a packet that asks for all, at the port with this number, and this node sent it
 abbrev pub AsksAt : Port → ℕ → List ℕ → Querier → Type 0
 AsksAt at port bytes who = (p : PacketView) × BeginsWith bytes p
-    × AsksForAll (concern_of at p.header) p.body
+    × AsksForAll (class_of at p.header) p.body
     × (who ≡ record { port = port; node = p.header.from.node })
 
 -- bytes are a general query at a port that exists
@@ -61,16 +61,16 @@ AsksNearestService body = (kind : ℕ) × (tail : List ℕ) × IsSap (sap.Query 
 
 -- a body asks narrowly, given the kind of its packet, SAP or RIP for the router: for the nearest service, or for
 -- the routes of named networks
-abbrev pub AsksNarrowly : Concern → List ℕ → Type 0
-AsksNarrowly concerns.Rip body = AsksNamedRoutes body
-AsksNarrowly concerns.Sap body = AsksNearestService body
-AsksNarrowly concerns.Forward body = ⊥
-AsksNarrowly (concerns.Dropped reason) body = ⊥
+abbrev pub AsksNarrowly : PacketClass → List ℕ → Type 0
+AsksNarrowly classes.Rip body = AsksNamedRoutes body
+AsksNarrowly classes.Sap body = AsksNearestService body
+AsksNarrowly classes.Forward body = ⊥
+AsksNarrowly (classes.Dropped reason) body = ⊥
 
 -- bytes are a packet that asks so, at the port with this number, and this node sent it
 abbrev pub AsksNarrowlyAt : Port → ℕ → List ℕ → Querier → Type 0
 AsksNarrowlyAt at port bytes who = (p : PacketView) × BeginsWith bytes p
-    × AsksNarrowly (concern_of at p.header) p.body
+    × AsksNarrowly (class_of at p.header) p.body
     × (who ≡ record { port = port; node = p.header.from.node })
 
 -- bytes are a narrow query at a port that exists

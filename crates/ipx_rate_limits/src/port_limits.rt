@@ -43,7 +43,7 @@ fn query_limit(kind: Kind) -> RateLimit
     ensures { result ≡ query_limit kind }
 {
     match kind {
-        Kind::Rfc1234 | Kind::Frames => USUAL,
+        Kind::Rfc1234 | Kind::Ethernet => USUAL,
         Kind::Ipxnet => CLIENTS,
     }
 }
@@ -53,7 +53,7 @@ fn narrow_limit(kind: Kind) -> RateLimit
     ensures { result ≡ narrow_limit kind }
 {
     match kind {
-        Kind::Rfc1234 | Kind::Frames => NARROW,
+        Kind::Rfc1234 | Kind::Ethernet => NARROW,
         Kind::Ipxnet => CLIENTS_NARROW,
     }
 }
@@ -75,7 +75,7 @@ fn has_group_nodes(kind: Kind) -> bool
     ensures { result ≡ has_group_nodes kind }
 {
     match kind {
-        Kind::Frames => true,
+        Kind::Ethernet => true,
         Kind::Rfc1234 | Kind::Ipxnet => false,
     }
 }

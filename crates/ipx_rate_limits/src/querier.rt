@@ -1,7 +1,7 @@
 //! Which datagrams ask a router for all that it knows, or narrowly, and who sent them.
 
 ghost use Rattle.std.specs.Prelude.{◌≡◌, ◌↔◌, IsTrue, IfNone, IfSome};
-ghost use Rattle.ipx_router.specs.Classify.{concern_of, concern_on_network, is_from_neighbour};
+ghost use Rattle.ipx_router.specs.Classify.{class_of, class_on_network, is_from_neighbour};
 ghost use Rattle.ipx_router.specs.Replying.{asks_all};
 ghost use Rattle.ipx_rate_limits.specs.RateLimiter.{AsksAllRoutes, AsksAllServices, AsksAt, AsksForAll, AsksNamedRoutes, AsksNarrowly, AsksNarrowlyAt, AsksNearestService, IsGeneralQuery, IsNarrowQuery};
 
@@ -83,7 +83,7 @@ fn comes_from_neighbour(at: Port, header: &IpxHeader) -> bool
 
 /// Whether a packet for the local network asks its router for all.
 fn asks_on_network(at: Port, header: &IpxHeader, body: &[u8]) -> bool
-    ensures { IsTrue result ↔ AsksForAll (concern_on_network at header.now) body.now }
+    ensures { IsTrue result ↔ AsksForAll (class_on_network at header.now) body.now }
 {
     if !comes_from_neighbour(at, header) {
         return false;
@@ -100,7 +100,7 @@ fn asks_on_network(at: Port, header: &IpxHeader, body: &[u8]) -> bool
 /// Whether a packet for the local network asks its router for the nearest service, or for named
 /// networks.
 fn asks_narrowly_on_network(at: Port, header: &IpxHeader, body: &[u8]) -> bool
-    ensures { IsTrue result ↔ AsksNarrowly (concern_on_network at header.now) body.now }
+    ensures { IsTrue result ↔ AsksNarrowly (class_on_network at header.now) body.now }
 {
     if !comes_from_neighbour(at, header) {
         return false;
@@ -116,7 +116,7 @@ fn asks_narrowly_on_network(at: Port, header: &IpxHeader, body: &[u8]) -> bool
 
 /// Whether a packet that came to a port asks its router for all.
 fn asks_for_all(at: Port, header: &IpxHeader, body: &[u8]) -> bool
-    ensures { IsTrue result ↔ AsksForAll (concern_of at header.now) body.now }
+    ensures { IsTrue result ↔ AsksForAll (class_of at header.now) body.now }
 {
     if header.kind == packet_type::NETBIOS_PROPAGATION {
         return false;
@@ -130,7 +130,7 @@ fn asks_for_all(at: Port, header: &IpxHeader, body: &[u8]) -> bool
 /// Whether a packet that came to a port asks its router for the nearest service, or for named
 /// networks.
 fn asks_narrowly(at: Port, header: &IpxHeader, body: &[u8]) -> bool
-    ensures { IsTrue result ↔ AsksNarrowly (concern_of at header.now) body.now }
+    ensures { IsTrue result ↔ AsksNarrowly (class_of at header.now) body.now }
 {
     if header.kind == packet_type::NETBIOS_PROPAGATION {
         return false;

@@ -21,7 +21,7 @@ use Rattle.ipx_router.specs.declared.port.PortNow.{PortNow}
 use Rattle.ipx_router.specs.declared.route.Route.{Route}
 use Rattle.ipx_router.specs.Knowledge.{Routes}
 use Rattle.ipx_router.specs.RouteChoice.{IsHeardRoute, IsRouteTo, direct_route, over_port, over_neighbour}
-use Rattle.ipx_router.specs.Told.{AreAdvertisedRoutes, IsAdvertisedRoute, route_key, advertised_route}
+use Rattle.ipx_router.specs.AdvertisedEntries.{AreAdvertisedRoutes, IsAdvertisedRoute, route_key, advertised_route}
 use Rattle.ipx_tables.specs.Sorted.{IsRising}
 use Rattle.ipx_router.proofs.Rising.{nothing_rises}
 use Rattle.ipx_router.specs.Placing.{AddsHeard, AreAdvertisedPorts, HasNetwork, PutsEntry, IsAdvertisedItem, IsAdvertisedPort, is_elsewhere, is_advertised_item, is_advertised_port, no_way}

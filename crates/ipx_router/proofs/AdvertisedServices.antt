@@ -16,7 +16,7 @@ use Rattle.ipx_tables.specs.Listing.{IsListing}
 use Rattle.ipx_tables.specs.Service.{service_before, service_key_cmp, service_key_exact}
 use Rattle.ipx_router.specs.declared.port.PortNow.{PortNow}
 use Rattle.ipx_router.specs.Knowledge.{Services}
-use Rattle.ipx_router.specs.Told.{AreAdvertisedServices, IsAdvertisedService, key_of_service, advertised_service}
+use Rattle.ipx_router.specs.AdvertisedEntries.{AreAdvertisedServices, IsAdvertisedService, key_of_service, advertised_service}
 use Rattle.ipx_router.specs.Picking.{is_item_asked}
 use Rattle.ipx_router.specs.OutOfMemoryCases.{HasToReply}
 use Rattle.ipx_router.proofs.Members.{rising_map, map_has, map_only, filter_has, filter_only}

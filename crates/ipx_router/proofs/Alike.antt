@@ -16,7 +16,7 @@ use Rattle.ipx_router.specs.declared.packets.Recipient.{Recipient}
 use Rattle.ipx_router.specs.RouterPackets.{AreServicePackets, IsSapPacket, sending_of}
 use Rattle.ipx_router.specs.Adding.{AddsBodies, AreBodiesOf, IsLeftToAdd, IsLeftToCut}
 use Rattle.ipx_router.specs.Placing.{advertised_of_other_ports}
-use Rattle.ipx_router.specs.Told.{advertised_service}
+use Rattle.ipx_router.specs.AdvertisedEntries.{advertised_service}
 use Rattle.ipx_router.proofs.Cuts.{cut_done, cut_more}
 
 -- one more body

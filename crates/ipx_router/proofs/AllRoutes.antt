@@ -21,7 +21,7 @@ use Rattle.ipx_router.specs.declared.port.Port.{Port}
 use Rattle.ipx_router.specs.declared.port.PortNow.{PortNow}
 use Rattle.ipx_router.specs.Knowledge.{Routes}
 use Rattle.ipx_router.specs.RouteChoice.{direct_route}
-use Rattle.ipx_router.specs.Told.{AreAdvertisedRoutes, IsAdvertisedRoute, route_key, advertised_route}
+use Rattle.ipx_router.specs.AdvertisedEntries.{AreAdvertisedRoutes, IsAdvertisedRoute, route_key, advertised_route}
 use Rattle.ipx_router.specs.Placing.{AddsHeard, AreAdvertisedPorts, IsAdvertisedItem, is_below, is_elsewhere, is_advertised_item, is_advertised_port}
 use Rattle.ipx_router.specs.Replying.{AreRoutesAsked, AreAdvertisedOf, asks_all}
 use Rattle.ipx_router.specs.OutOfMemoryCases.{HasRouteToReply}

@@ -12,7 +12,7 @@ use Rattle.ipx_tables.specs.Listing.{IsListing}
 use Rattle.ipx_tables.specs.Service.{service_before, service_key_cmp}
 use Rattle.ipx_router.specs.declared.port.PortNow.{PortNow}
 use Rattle.ipx_router.specs.Knowledge.{Services}
-use Rattle.ipx_router.specs.Told.{advertised_service}
+use Rattle.ipx_router.specs.AdvertisedEntries.{advertised_service}
 use Rattle.ipx_router.specs.Replying.{AreServicesAsked, is_of_kind}
 use Rattle.ipx_router.specs.Picking.{is_item_asked}
 use Rattle.ipx_router.specs.OutOfMemoryCases.{HasToReply}

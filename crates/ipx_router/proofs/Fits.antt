@@ -21,8 +21,8 @@ use Rattle.ipx_tables.specs.declared.service.ServiceKey.{ServiceKey}
 use Rattle.ipx_tables.specs.declared.service.ServiceMetric.{ServiceMetric}
 use Rattle.ipx_tables.specs.declared.source.Source.{Source}
 use Rattle.ipx_tables.specs.Content.{Table}
-use Rattle.ipx_router.specs.declared.classify.Concern.{Concern}
-use Rattle.ipx_router.specs.declared.classify.Concern.TheVariants as concerns
+use Rattle.ipx_router.specs.declared.classify.PacketClass.{PacketClass}
+use Rattle.ipx_router.specs.declared.classify.PacketClass.TheVariants as classes
 use Rattle.ipx_router.specs.declared.forwarding.Forwarding.{Forwarding}
 use Rattle.ipx_router.specs.declared.forwarding.Forwarding.TheVariants as outcomes
 use Rattle.ipx_router.specs.declared.outcome.Outcome.{Outcome}
@@ -35,12 +35,12 @@ use Rattle.ipx_router.specs.Knowledge.{HoldsKnown, HoldsRoutes, HoldsServices, K
 use Rattle.ipx_router.specs.Ports.{AreOnPorts, IsPortNumber}
 use Rattle.ipx_router.specs.RouterPackets.{AreOwn, IsOwn, SendingView, all_nodes, recipient_at}
 use Rattle.ipx_router.specs.OutcomeView.{OutcomeView, Forward, Replies, Heard, Dropped, IsOnPort, replies_of, router_outcome}
-use Rattle.ipx_router.specs.Classify.{concern_of}
+use Rattle.ipx_router.specs.Classify.{class_of}
 use Rattle.ipx_router.specs.Hearing.{source_of}
 use Rattle.ipx_router.specs.Forward.{IsForwardingAnswer, by_route}
-use Rattle.ipx_router.specs.Answer.{AnswersByConcern, AnswersPacket, AnswersRip, AnswersRipMessage, AnswersSap, AnswersSapMessage, HearsRoutes, HearsServices, Receives}
+use Rattle.ipx_router.specs.Answer.{AnswersByClass, AnswersPacket, AnswersRip, AnswersRipMessage, AnswersSap, AnswersSapMessage, HearsRoutes, HearsServices, Receives}
 use Rattle.ipx_router.specs.Starting.{AreAsked, AreStarts, all_asked}
-use Rattle.ipx_router.specs.Telling.{AreAdvertisements, AreAdvertised, TellsIfDue, is_due}
+use Rattle.ipx_router.specs.Advertisements.{AreAdvertisements, AreAdvertised, TellsIfDue, is_due}
 use Rattle.ipx_router.proofs.Cuts.{rip_packet_own, route_packets_own, route_packets_port, sap_packet_own, service_packets_own, service_packets_port}
 
 -- a fact of answers that holds if entries were learned, if the packet was dropped, and for replies of the
@@ -112,16 +112,16 @@ fate_own arrived d (outcomes.Dropped reason) a h = subst RepliesOwn (sym h) (All
 fate_own arrived d (outcomes.Forward port next) a h = subst RepliesOwn (sym h.1) (All-nil IsOwn)
 
 module _ (k : Known) (at : PortNow) (a : OutcomeView) (new : Tables) where
-  concern_own : (d : PacketView) (c : Concern) → AnswersByConcern k at d a new c → RepliesOwn a
-  concern_own d (concerns.Dropped reason) h = subst RepliesOwn (sym h.0) (All-nil IsOwn)
-  concern_own d concerns.Rip h =
+  class_own : (d : PacketView) (c : PacketClass) → AnswersByClass k at d a new c → RepliesOwn a
+  class_own d (classes.Dropped reason) h = subst RepliesOwn (sym h.0) (All-nil IsOwn)
+  class_own d classes.Rip h =
       rip_fits at d RepliesOwn (λ n. All-nil IsOwn) (λ r. All-nil IsOwn) (λ sent by own. own) k.ports k.routes a new.0 h.0
-  concern_own d concerns.Sap h =
+  class_own d classes.Sap h =
       sap_fits at d RepliesOwn (λ n. All-nil IsOwn) (λ r. All-nil IsOwn) (λ sent by own. own) k.services a new.1 h.0
-  concern_own d concerns.Forward h = fate_own at.port d (by_route d.header h.0.0) a h.0.2
+  class_own d classes.Forward h = fate_own at.port d (by_route d.header h.0.0) a h.0.2
 
   bytes_own : (bytes : List ℕ) (f : Option IpxFault) → MatchOption f (AnswersPacket k at bytes a new) (λ f. (a ≡ Dropped (Bad f)) × HoldsKnown k new) → RepliesOwn a
-  bytes_own bytes None h = concern_own h.0 (concern_of at.port h.0.header) h.3
+  bytes_own bytes None h = class_own h.0 (class_of at.port h.0.header) h.3
   bytes_own bytes (Some f) h = subst RepliesOwn (sym h.0) (All-nil IsOwn)
 
 pub receives_own : {O : Type 0} (view : O → OutcomeView) (old : RouterView) (port : ℕ) (bytes : List ℕ) (now : ℕ) (new : RouterView) (o : Result O OutOfMemory)

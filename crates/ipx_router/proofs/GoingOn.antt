@@ -10,17 +10,17 @@ use Rattle.ipx_tables.specs.declared.route.RouteMetric.{RouteMetric}
 use Rattle.ipx_tables.specs.declared.service.ServiceKey.{ServiceKey}
 use Rattle.ipx_tables.specs.declared.service.ServiceMetric.{ServiceMetric}
 use Rattle.ipx_tables.specs.Content.{Table}
-use Rattle.ipx_router.specs.declared.classify.Concern.{Concern}
-use Rattle.ipx_router.specs.declared.classify.Concern.TheVariants as concerns
+use Rattle.ipx_router.specs.declared.classify.PacketClass.{PacketClass}
+use Rattle.ipx_router.specs.declared.classify.PacketClass.TheVariants as classes
 use Rattle.ipx_router.specs.declared.port.Port.{Port}
 use Rattle.ipx_router.specs.declared.port.PortNow.{PortNow}
 use Rattle.ipx_router.specs.declared.reason.Reason.TheVariants.{Bad}
 use Rattle.ipx_router.specs.Knowledge.{HoldsKnown, Known, Tables, known_in, routes_in}
 use Rattle.ipx_router.specs.OutcomeView.{OutcomeView, Forward, Replies, Heard, Dropped}
 use Rattle.ipx_router.specs.Onward.{ForwardsNothing, IsOnward}
-use Rattle.ipx_router.specs.Classify.{concern_of}
+use Rattle.ipx_router.specs.Classify.{class_of}
 use Rattle.ipx_router.specs.Forward.{Forwards}
-use Rattle.ipx_router.specs.Answer.{AnswersByConcern, AnswersBytes, AnswersPacket}
+use Rattle.ipx_router.specs.Answer.{AnswersByClass, AnswersBytes, AnswersPacket}
 use Rattle.ipx_router.specs.OutOfMemoryCases.{NoneIsOnward}
 use Rattle.ipx_router.specs.Forwarded.{ForwardsEachReading, ForwardsPacket, IsForwardOf}
 use Rattle.ipx_router.proofs.Fits.{rip_fits, sap_fits}
@@ -41,7 +41,7 @@ module _ (ports : List Port) (routes : Table Network RouteMetric) (services : Ta
       let new : Tables = (routes, services) in
       let d : PacketView = packet_of h on.body in
       let same : HoldsKnown k new = record { routes = λ p. refl; services = λ p. refl } in
-      let by : AnswersByConcern k at d a new (concern_of at.port h) = subst (AnswersByConcern k at d a new) (sym on.concern) (forwards on.body on.tail on.packet on.size, same) in
+      let by : AnswersByClass k at d a new (class_of at.port h) = subst (AnswersByClass k at d a new) (sym on.packet_class) (forwards on.body on.tail on.packet on.size, same) in
       subst (λ (f : Option IpxFault). MatchOption f (AnswersPacket k at bytes a new) (λ f. (a ≡ Dropped (Bad f)) × HoldsKnown k new)) (sym on.whole) (d, on.tail, on.packet, by)
 
   pub on_packet : ForwardsPacket bytes a
@@ -53,14 +53,14 @@ module _ (ports : List Port) (routes : Table Network RouteMetric) (services : Ta
 -- ---- everything else
 
 module _ (k : Known) (at : PortNow) (bytes : List ℕ) (none : NoneIsOnward at.port bytes) (a : OutcomeView) (new : Tables) where
-  concern_nothing : (d : PacketView) → BeginsWith bytes d → (c : Concern) → concern_of at.port d.header ≡ c → AnswersByConcern k at d a new c → ForwardsNothing a
-  concern_nothing d is (concerns.Dropped reason) e h = subst ForwardsNothing (sym h.0) tt
-  concern_nothing d is concerns.Rip e h = rip_fits at d ForwardsNothing (λ n. tt) (λ r. tt) (λ sent by own. tt) k.ports k.routes a new.0 h.0
-  concern_nothing d is concerns.Sap e h = sap_fits at d ForwardsNothing (λ n. tt) (λ r. tt) (λ sent by own. tt) k.services a new.1 h.0
-  concern_nothing d is concerns.Forward e h = absurd (none d is e)
+  class_nothing : (d : PacketView) → BeginsWith bytes d → (c : PacketClass) → class_of at.port d.header ≡ c → AnswersByClass k at d a new c → ForwardsNothing a
+  class_nothing d is (classes.Dropped reason) e h = subst ForwardsNothing (sym h.0) tt
+  class_nothing d is classes.Rip e h = rip_fits at d ForwardsNothing (λ n. tt) (λ r. tt) (λ sent by own. tt) k.ports k.routes a new.0 h.0
+  class_nothing d is classes.Sap e h = sap_fits at d ForwardsNothing (λ n. tt) (λ r. tt) (λ sent by own. tt) k.services a new.1 h.0
+  class_nothing d is classes.Forward e h = absurd (none d is e)
 
   bytes_nothing : (f : Option IpxFault) → MatchOption f (AnswersPacket k at bytes a new) (λ f. (a ≡ Dropped (Bad f)) × HoldsKnown k new) → ForwardsNothing a
-  bytes_nothing None h = concern_nothing h.0 (h.1, h.2) (concern_of at.port h.0.header) refl h.3
+  bytes_nothing None h = class_nothing h.0 (h.1, h.2) (class_of at.port h.0.header) refl h.3
   bytes_nothing (Some f) h = subst ForwardsNothing (sym h.0) tt
 
   pub forwards_nothing : AnswersBytes k at bytes a new → ForwardsNothing a

@@ -24,13 +24,13 @@ use Rattle.ipx_tables.specs.Route.{network_cmp, route_dead}
 use Rattle.ipx_tables.specs.Service.{service_key_cmp, service_dead}
 use Rattle.ipx_router.specs.declared.port.Port.{Port}
 use Rattle.ipx_router.specs.Knowledge.{Routes, Services, routes_in, services_in}
-use Rattle.ipx_router.specs.Told.{key_of_service}
+use Rattle.ipx_router.specs.AdvertisedEntries.{key_of_service}
 use Rattle.ipx_router.specs.Hearing.{AtEntry, HeardFirst, HeardRoutes, HeardServices, after_route, after_routes, after_service, after_services, is_heard, route_metric, service_metric}
 use Rattle.ipx_router.specs.Ports.{AreFromPorts, IsPortNumber}
 
 module _ {K M E : Type 0} (cmp : K → K → Ordering) (after : List E → Content K M) (entries : List E) where
   -- one more entry was learned, or did not need to be
-  pub heard_one_more : (i : ℕ) → i < length entries → (t new : Table K M) → HeardFirst cmp after entries i t → IsTable cmp new → new.most ≡ t.most
+  pub heard_one_more : (i : ℕ) → i < length entries → (t new : Table K M) → HeardFirst cmp after entries i t → IsTable cmp new → new.capacity ≡ t.capacity
       → ((p : K × Source) → content cmp new.offers p ≡ after (take (i + 1) entries) p) → HeardFirst cmp after entries (i + 1) new
   heard_one_more i lt t new h valid most says = record {
     within = omega arith;
@@ -38,7 +38,7 @@ module _ {K M E : Type 0} (cmp : K → K → Ordering) (after : List E → Conte
       | inl less ↦ subst (λ (k : ℕ). Fits cmp k (after (take m entries))) (sym most) (h.room m (omega arith))
       | inr not_less ↦
           let same : m ≡ i + 1 = omega arith in
-          subst (λ (k : ℕ). Fits cmp new.most (after (take k entries))) (sym same) (record { table = new; valid = valid; room = refl; says = says })
+          subst (λ (k : ℕ). Fits cmp new.capacity (after (take k entries))) (sym same) (record { table = new; valid = valid; room = refl; says = says })
     ];
     holds = says;
   }
@@ -49,7 +49,7 @@ module _ {K M E : Type 0} (cmp : K → K → Ordering) (after : List E → Conte
     within = omega arith;
     room = λ m le.
         let same : m ≡ 0 = omega arith in
-        subst (λ (k : ℕ). Fits cmp t.most (after (take k entries))) (sym same) (record { table = t; valid = valid; room = refl; says = says });
+        subst (λ (k : ℕ). Fits cmp t.capacity (after (take k entries))) (sym same) (record { table = t; valid = valid; room = refl; says = says });
     holds = says;
   }
 
@@ -86,7 +86,7 @@ module _ (ports : List Port) (source : Source) (now : ℕ) (entries : List RipEn
       h.holds p ∙ sym (ap (λ (r : Routes). r p) next ∙ ap (λ (b : Bool). let r : Routes = cond b (after_hear network_cmp route_dead c (x.network, source) (route_metric x) now) c in r p) e))
 
   -- an entry that is learned replaces what its source said of its network
-  pub heard_more : (new : Table Network RouteMetric) → IsTable network_cmp new → new.most ≡ t.most → is_heard ports x ≡ true
+  pub heard_more : (new : Table Network RouteMetric) → IsTable network_cmp new → new.capacity ≡ t.capacity → is_heard ports x ≡ true
       → ((p : Network × Source) → routes_in new p ≡ after_hear network_cmp route_dead (routes_in t) (x.network, source) (route_metric x) now p)
       → HeardRoutes ports source now entries routes (i + 1) new
   heard_more new valid most e said =
@@ -108,7 +108,7 @@ abbrev pub no_service : ServiceEntry
 no_service = record { kind = 0; name = []; at = record { network = record { 0 = 0 }; node = record { 0 = [] }; socket = record { 0 = 0 } }; hops = 0 }
 
 module _ (source : Source) (now : ℕ) (entries : List ServiceEntry) (services : Services) (i : ℕ) (d x : ServiceEntry) (lt : i < length entries) (there : get_or entries i d ≡ x) (t : Table ServiceKey ServiceMetric) (h : HeardServices source now entries services i t) where
-  pub service_more : (new : Table ServiceKey ServiceMetric) → IsTable service_key_cmp new → new.most ≡ t.most
+  pub service_more : (new : Table ServiceKey ServiceMetric) → IsTable service_key_cmp new → new.capacity ≡ t.capacity
       → ((p : ServiceKey × Source) → services_in new p ≡ after_hear service_key_cmp service_dead (services_in t) (key_of_service x, source) (service_metric x) now p)
       → HeardServices source now entries services (i + 1) new
   service_more new valid most said =

@@ -18,7 +18,7 @@ IsTable-empty : {K M : Type 0} (cmp : K → K → Ordering) (t : Table K M) → 
 IsTable-empty cmp t empty = record { apart = rw empty tt; within = rw empty (omega arith) }
 
 -- tables of no offers
-pub tables_empty : (routes : Table Network RouteMetric) (services : Table ServiceKey ServiceMetric) → routes.offers ≡ [] → services.offers ≡ [] → routes.most ≡ 1024 → services.most ≡ 4096 → AreTables (routes, services)
+pub tables_empty : (routes : Table Network RouteMetric) (services : Table ServiceKey ServiceMetric) → routes.offers ≡ [] → services.offers ≡ [] → routes.capacity ≡ 1024 → services.capacity ≡ 4096 → AreTables (routes, services)
 tables_empty routes services no_routes no_services most_routes most_services = record {
   routes = IsTable-empty network_cmp routes no_routes;
   services = IsTable-empty service_key_cmp services no_services;
@@ -28,7 +28,7 @@ tables_empty routes services no_routes no_services most_routes most_services = r
 
 -- tables of the same size whose offers came by ports that exist
 pub sound_kept : (ports : List Port) (old new : Tables) → IsSound ports old → IsTable network_cmp new.0 → IsTable service_key_cmp new.1
-    → new.0.most ≡ old.0.most → new.1.most ≡ old.1.most → AreFromPorts (length ports) (routes_in new.0) → AreFromPorts (length ports) (services_in new.1) → IsSound ports new
+    → new.0.capacity ≡ old.0.capacity → new.1.capacity ≡ old.1.capacity → AreFromPorts (length ports) (routes_in new.0) → AreFromPorts (length ports) (services_in new.1) → IsSound ports new
 sound_kept ports old new is routes services most_routes most_services routes_from services_from = record {
   some = is.some;
   count = is.count;
@@ -45,7 +45,7 @@ sound_kept ports old new is routes services most_routes most_services routes_fro
 
 -- tables without the offers that are old
 pub sound_aged : (ports : List Port) (now : ℕ) (old new : Tables) → IsSound ports old → IsTable network_cmp new.0 → IsTable service_key_cmp new.1
-    → new.0.most ≡ old.0.most → new.1.most ≡ old.1.most
+    → new.0.capacity ≡ old.0.capacity → new.1.capacity ≡ old.1.capacity
     → ((p : Network × Source) → routes_in new.0 p ≡ after_age (routes_in old.0) now p) → ((p : ServiceKey × Source) → services_in new.1 p ≡ after_age (services_in old.1) now p) → IsSound ports new
 sound_aged ports now old new is routes services most_routes most_services aged_routes aged_services =
     sound_kept ports old new is routes services most_routes most_services

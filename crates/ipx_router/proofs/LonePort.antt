@@ -14,8 +14,8 @@ use Rattle.ipx_router.specs.declared.route.Route.{Route}
 use Rattle.ipx_router.specs.Knowledge.{Routes, Services}
 use Rattle.ipx_router.specs.Ports.{AreFromPorts}
 use Rattle.ipx_router.specs.RouteChoice.{IsHeardRoute, direct_route, over_port}
-use Rattle.ipx_router.specs.Told.{IsListOf, IsAdvertisedRoute, IsAdvertisedService, key_of_service, route_key, advertised_route}
-use Rattle.ipx_router.specs.Telling.{AreAdvertisements, AreAdvertised, HasToTell}
+use Rattle.ipx_router.specs.AdvertisedEntries.{IsListOf, IsAdvertisedRoute, IsAdvertisedService, key_of_service, route_key, advertised_route}
+use Rattle.ipx_router.specs.Advertisements.{AreAdvertisements, AreAdvertised, HasToTell}
 use Rattle.ipx_router.specs.Placing.{no_way}
 use Rattle.ipx_router.proofs.Rising.{nothing_rises}
 use Rattle.ipx_router.proofs.AdvertisedRoutes.{no_port}

@@ -12,7 +12,7 @@ use Rattle.ipx_wire.specs.declared.address.Network.{Network}
 use Rattle.ipx_control.specs.declared.rip.packet.RipEntry.{RipEntry}
 use Rattle.ipx_tables.specs.Route.{network_cmp}
 use Rattle.ipx_tables.specs.Sorted.{IsRising}
-use Rattle.ipx_router.specs.Told.{route_key}
+use Rattle.ipx_router.specs.AdvertisedEntries.{route_key}
 use Rattle.ipx_router.specs.Placing.{is_below}
 use Rattle.ipx_router.proofs.Rising.{network_total, nothing_rises}
 

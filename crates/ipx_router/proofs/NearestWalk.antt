@@ -11,7 +11,7 @@ use Rattle.ipx_tables.specs.Listing.{IsListing}
 use Rattle.ipx_tables.specs.Service.{service_before, service_key_cmp}
 use Rattle.ipx_router.specs.declared.port.PortNow.{PortNow}
 use Rattle.ipx_router.specs.Knowledge.{Services}
-use Rattle.ipx_router.specs.Told.{IsAdvertisedService, advertised_service}
+use Rattle.ipx_router.specs.AdvertisedEntries.{IsAdvertisedService, advertised_service}
 use Rattle.ipx_router.specs.Replying.{IsNearest, NoneIsNear, is_near}
 use Rattle.ipx_router.specs.Picking.{is_item_asked, nearer}
 use Rattle.ipx_router.proofs.Nearest.{nearest_more, nearest_skip}

@@ -26,8 +26,8 @@ use Rattle.ipx_tables.specs.Content.{IsTable, Table, after_hear}
 use Rattle.ipx_tables.specs.Order.{EqualOnlyIfSame, strict_from_cmp}
 use Rattle.ipx_tables.specs.Route.{network_cmp, route_before, route_dead}
 use Rattle.ipx_tables.specs.Service.{service_dead, service_key_cmp}
-use Rattle.ipx_router.specs.declared.classify.Concern.{Concern}
-use Rattle.ipx_router.specs.declared.classify.Concern.TheVariants as concerns
+use Rattle.ipx_router.specs.declared.classify.PacketClass.{PacketClass}
+use Rattle.ipx_router.specs.declared.classify.PacketClass.TheVariants as classes
 use Rattle.ipx_router.specs.declared.forwarding.Forwarding.{Forwarding}
 use Rattle.ipx_router.specs.declared.forwarding.Forwarding.TheVariants as outcomes
 use Rattle.ipx_router.specs.declared.packets.Recipient.{Recipient}
@@ -39,13 +39,13 @@ use Rattle.ipx_router.specs.RouterView.{RouterView}
 use Rattle.ipx_router.specs.OutcomeView.{OutcomeView, Forward, Replies, Heard, Dropped}
 use Rattle.ipx_router.specs.Knowledge.{AreTables, HoldsKnown, HoldsRoutes, HoldsServices, Known, Routes, Services, Tables, known_at, tables}
 use Rattle.ipx_router.specs.RouterPackets.{AreRoutePackets, AreServicePackets, IsRipPacket, IsSapPacket, SendingView}
-use Rattle.ipx_router.specs.Classify.{concern_of}
+use Rattle.ipx_router.specs.Classify.{class_of}
 use Rattle.ipx_router.specs.RouteChoice.{IsHeardRoute, IsRouteOrNone, IsRouteTo, direct_route, over_neighbour, over_port}
 use Rattle.ipx_router.specs.Forward.{Forwards, IsForwardingAnswer, by_route, forward_header}
-use Rattle.ipx_router.specs.Told.{AreAdvertisedRoutes, IsAdvertisedRoute, IsAdvertisedService, key_of_service, route_key, advertised_route}
+use Rattle.ipx_router.specs.AdvertisedEntries.{AreAdvertisedRoutes, IsAdvertisedRoute, IsAdvertisedService, key_of_service, route_key, advertised_route}
 use Rattle.ipx_router.specs.Replying.{AreNearest, AreRoutesAsked, AreServicesAsked, AreAdvertisedOf, IsNearest, RepliesRoutes, RepliesServices, asks_all, nearness}
 use Rattle.ipx_router.specs.Hearing.{AtEntry, HeardRoutes, HeardServices, IsFullForRoute, IsFullForService, after_route, after_service, route_metric, service_metric, source_of}
-use Rattle.ipx_router.specs.Answer.{AnswersByConcern, AnswersBytes, AnswersPacket, AnswersRip, AnswersRipMessage, AnswersSap, AnswersSapMessage, HearsRoutes, HearsServices, Receives}
+use Rattle.ipx_router.specs.Answer.{AnswersByClass, AnswersBytes, AnswersPacket, AnswersRip, AnswersRipMessage, AnswersSap, AnswersSapMessage, HearsRoutes, HearsServices, Receives}
 use Rattle.ipx_router.proofs.Rising.{network_total}
 use Rattle.ipx_router.proofs.OneList.{list_is_one}
 use Rattle.ipx_router.proofs.OnePacket.{OneListOfBytes, bytes_one, cuts_one, own_packet_one}
@@ -220,18 +220,18 @@ replies_services_one f services at to nearest kind ss ts x y =
 module _ (f : Facts) (ports : List Port) (routes : Routes) (source : Source) (now : ℕ) (entries : List RipEntry) where
   -- the entry for which one table is full did not fit in another table that learned more entries
   pub full_route : (n m : ℕ) (new other : Table Network RouteMetric) → HeardRoutes ports source now entries routes n new → AtEntry entries n (IsFullForRoute ports source new) → IsTable network_cmp new
-      → HeardRoutes ports source now entries routes m other → n < m → new.most ≡ other.most → ⊥
+      → HeardRoutes ports source now entries routes m other → n < m → new.capacity ≡ other.capacity → ⊥
   full_route n m new other heard at valid more lt room =
       no_room f.routes_count route_dead now (λ (e : RipEntry). (e.network, source)) route_metric (after_route ports source now) routes entries n m at.entry new other at.there
       (λ c q. ap (λ (b : Bool). (if b then after_hear network_cmp route_dead c (at.entry.network, source) (route_metric at.entry) now else c) q) at.holds.0)
       heard at.holds.1 valid more lt room
 
   pub full_in_all : (n : ℕ) (new other : Table Network RouteMetric) → HeardRoutes ports source now entries routes n new → AtEntry entries n (IsFullForRoute ports source new) → IsTable network_cmp new
-      → HeardRoutes ports source now entries routes (length entries) other → new.most ≡ other.most → ⊥
+      → HeardRoutes ports source now entries routes (length entries) other → new.capacity ≡ other.capacity → ⊥
   full_in_all n new other heard at valid more room = full_route n (length entries) new other heard at valid more (slice_get_within entries n at.entry at.there) room
 
   hears_routes_one : (a b : OutcomeView) (new other : Table Network RouteMetric) → HearsRoutes ports routes source now entries a new → HearsRoutes ports routes source now entries b other
-      → IsTable network_cmp new → IsTable network_cmp other → new.most ≡ other.most → a ≡ b
+      → IsTable network_cmp new → IsTable network_cmp other → new.capacity ≡ other.capacity → a ≡ b
   hears_routes_one (Heard n) (Heard m) new other x y valid_new valid_other room = ap Heard (x.0 ∙ sym y.0)
   hears_routes_one (Heard n) (Dropped r) new other x y valid_new valid_other room = absurd (full_in_all y.1 other new y.2 y.3 valid_other x.1 (sym room))
   hears_routes_one (Heard n) (Forward p t s) new other x y valid_new valid_other room = absurd y
@@ -245,17 +245,17 @@ module _ (f : Facts) (ports : List Port) (routes : Routes) (source : Source) (no
 
 module _ (f : Facts) (services : Services) (source : Source) (now : ℕ) (entries : List ServiceEntry) where
   pub full_service : (n m : ℕ) (new other : Table ServiceKey ServiceMetric) → HeardServices source now entries services n new → AtEntry entries n (IsFullForService source new) → IsTable service_key_cmp new
-      → HeardServices source now entries services m other → n < m → new.most ≡ other.most → ⊥
+      → HeardServices source now entries services m other → n < m → new.capacity ≡ other.capacity → ⊥
   full_service n m new other heard at valid more lt room =
       no_room f.services_count service_dead now (λ (e : ServiceEntry). (key_of_service e, source)) service_metric (after_service source now) services entries n m at.entry new other at.there
       (λ c q. refl) heard at.holds valid more lt room
 
   pub full_for_all : (n : ℕ) (new other : Table ServiceKey ServiceMetric) → HeardServices source now entries services n new → AtEntry entries n (IsFullForService source new) → IsTable service_key_cmp new
-      → HeardServices source now entries services (length entries) other → new.most ≡ other.most → ⊥
+      → HeardServices source now entries services (length entries) other → new.capacity ≡ other.capacity → ⊥
   full_for_all n new other heard at valid more room = full_service n (length entries) new other heard at valid more (slice_get_within entries n at.entry at.there) room
 
   hears_services_one : (a b : OutcomeView) (new other : Table ServiceKey ServiceMetric) → HearsServices services source now entries a new → HearsServices services source now entries b other
-      → IsTable service_key_cmp new → IsTable service_key_cmp other → new.most ≡ other.most → a ≡ b
+      → IsTable service_key_cmp new → IsTable service_key_cmp other → new.capacity ≡ other.capacity → a ≡ b
   hears_services_one (Heard n) (Heard m) new other x y valid_new valid_other room = ap Heard (x.0 ∙ sym y.0)
   hears_services_one (Heard n) (Dropped r) new other x y valid_new valid_other room = absurd (full_for_all y.1 other new y.2 y.3 valid_other x.1 (sym room))
   hears_services_one (Heard n) (Forward p t s) new other x y valid_new valid_other room = absurd y
@@ -268,14 +268,14 @@ module _ (f : Facts) (services : Services) (source : Source) (now : ℕ) (entrie
   hears_services_one (Replies s) b new other x y valid_new valid_other room = absurd x
 
 rip_message_one : Facts → (ports : List Port) (routes : Routes) (at : PortNow) (h : IpxHeader) (m : RipView) (a b : OutcomeView) (new other : Table Network RouteMetric)
-    → AnswersRipMessage ports routes at h m a new → AnswersRipMessage ports routes at h m b other → IsTable network_cmp new → IsTable network_cmp other → new.most ≡ other.most → a ≡ b
+    → AnswersRipMessage ports routes at h m a new → AnswersRipMessage ports routes at h m b other → IsTable network_cmp new → IsTable network_cmp other → new.capacity ≡ other.capacity → a ≡ b
 rip_message_one f ports routes at h (rip.Request asked) a b new other x y valid_new valid_other room =
     x.1 ∙ ap Replies (replies_routes_one f ports routes at _ asked x.0 y.0 x.2 y.2) ∙ sym y.1
 rip_message_one f ports routes at h (rip.Response entries) a b new other x y valid_new valid_other room =
     hears_routes_one f ports routes (source_of at h) at.now entries a b new other x y valid_new valid_other room
 
 sap_message_one : Facts → (services : Services) (at : PortNow) (h : IpxHeader) (m : SapView) (a b : OutcomeView) (new other : Table ServiceKey ServiceMetric)
-    → AnswersSapMessage services at h m a new → AnswersSapMessage services at h m b other → IsTable service_key_cmp new → IsTable service_key_cmp other → new.most ≡ other.most → a ≡ b
+    → AnswersSapMessage services at h m a new → AnswersSapMessage services at h m b other → IsTable service_key_cmp new → IsTable service_key_cmp other → new.capacity ≡ other.capacity → a ≡ b
 sap_message_one f services at h (sap.Query nearest kind) a b new other x y valid_new valid_other room =
     x.1 ∙ ap Replies (replies_services_one f services at _ nearest kind x.0 y.0 x.2 y.2) ∙ sym y.1
 sap_message_one f services at h (sap.Response nearest entries) a b new other x y valid_new valid_other room =
@@ -290,7 +290,7 @@ abbrev pub ReadsRip : List Port → Routes → PortNow → PacketView → Outcom
 ReadsRip ports routes at d a new = (m : RipView) × (tail : List ℕ) × IsRip m d.body tail × AnswersRipMessage ports routes at d.header m a new
 
 rip_one : Facts → (ports : List Port) (routes : Routes) (at : PortNow) (d : PacketView) (a b : OutcomeView) (new other : Table Network RouteMetric)
-    → AnswersRip ports routes at d a new → AnswersRip ports routes at d b other → IsTable network_cmp new → IsTable network_cmp other → new.most ≡ other.most → a ≡ b
+    → AnswersRip ports routes at d a new → AnswersRip ports routes at d b other → IsTable network_cmp new → IsTable network_cmp other → new.capacity ≡ other.capacity → a ≡ b
 rip_one f ports routes at d a b new other x y valid_new valid_other room =
     option_cases (rip_fault d.body) (ReadsRip ports routes at d a new) (ReadsRip ports routes at d b other)
     (λ e. (a ≡ Dropped (BadControl e)) × HoldsRoutes new routes) (λ e. (b ≡ Dropped (BadControl e)) × HoldsRoutes other routes) (a ≡ b)
@@ -304,7 +304,7 @@ abbrev pub ReadsSap : Services → PortNow → PacketView → OutcomeView → Ta
 ReadsSap services at d a new = (m : SapView) × (tail : List ℕ) × IsSap m d.body tail × AnswersSapMessage services at d.header m a new
 
 sap_one : Facts → (services : Services) (at : PortNow) (d : PacketView) (a b : OutcomeView) (new other : Table ServiceKey ServiceMetric)
-    → AnswersSap services at d a new → AnswersSap services at d b other → IsTable service_key_cmp new → IsTable service_key_cmp other → new.most ≡ other.most → a ≡ b
+    → AnswersSap services at d a new → AnswersSap services at d b other → IsTable service_key_cmp new → IsTable service_key_cmp other → new.capacity ≡ other.capacity → a ≡ b
 sap_one f services at d a b new other x y valid_new valid_other room =
     option_cases (sap_fault d.body) (ReadsSap services at d a new) (ReadsSap services at d b other)
     (λ e. (a ≡ Dropped (BadControl e)) × HoldsServices new services) (λ e. (b ≡ Dropped (BadControl e)) × HoldsServices other services) (a ≡ b)
@@ -319,19 +319,19 @@ pub record AreBoth (new other : Tables) : Type 0 where
   pub valid_new : AreTables new
   pub valid_other : AreTables other
 
-concern_one : Facts → (k : Known) (at : PortNow) (d : PacketView) (a b : OutcomeView) (new other : Tables) (concern : Concern) → AreBoth new other → AnswersByConcern k at d a new concern → AnswersByConcern k at d b other concern → a ≡ b
-concern_one f k at d a b new other (concerns.Dropped reason) both x y = x.0 ∙ sym y.0
-concern_one f k at d a b new other concerns.Rip both x y =
+class_one : Facts → (k : Known) (at : PortNow) (d : PacketView) (a b : OutcomeView) (new other : Tables) (packet_class : PacketClass) → AreBoth new other → AnswersByClass k at d a new packet_class → AnswersByClass k at d b other packet_class → a ≡ b
+class_one f k at d a b new other (classes.Dropped reason) both x y = x.0 ∙ sym y.0
+class_one f k at d a b new other classes.Rip both x y =
     rip_one f k.ports k.routes at d a b new.0 other.0 x.0 y.0 both.valid_new.routes both.valid_other.routes (both.valid_new.most_routes ∙ sym both.valid_other.most_routes)
-concern_one f k at d a b new other concerns.Sap both x y =
+class_one f k at d a b new other classes.Sap both x y =
     sap_one f k.services at d a b new.1 other.1 x.0 y.0 both.valid_new.services both.valid_other.services (both.valid_new.most_services ∙ sym both.valid_other.most_services)
-concern_one f k at d a b new other concerns.Forward both x y = forwards_one f k.ports k.routes at d a b x.0 y.0
+class_one f k at d a b new other classes.Forward both x y = forwards_one f k.ports k.routes at d a b x.0 y.0
 
 packet_one : Facts → (k : Known) (at : PortNow) (bytes : List ℕ) (a b : OutcomeView) (new other : Tables) → AreBoth new other → AnswersPacket k at bytes a new → AnswersPacket k at bytes b other → a ≡ b
 packet_one f k at bytes a b new other both x y =
     let same = (f.one_ipx x.0 y.0 bytes x.1 y.1 x.2 y.2).0 in
-    let moved = subst (λ (d : PacketView). AnswersByConcern k at d a new (concern_of at.port d.header)) same x.3 in
-    concern_one f k at y.0 a b new other (concern_of at.port y.0.header) both moved y.3
+    let moved = subst (λ (d : PacketView). AnswersByClass k at d a new (class_of at.port d.header)) same x.3 in
+    class_one f k at y.0 a b new other (class_of at.port y.0.header) both moved y.3
 
 datagram_one : Facts → (k : Known) (at : PortNow) (bytes : List ℕ) (a b : OutcomeView) (new other : Tables) → AreBoth new other → AnswersBytes k at bytes a new → AnswersBytes k at bytes b other → a ≡ b
 datagram_one f k at bytes a b new other both x y =

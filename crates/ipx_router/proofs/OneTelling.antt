@@ -12,8 +12,8 @@ use Rattle.ipx_router.specs.Knowledge.{Known, Routes, Services}
 use Rattle.ipx_router.specs.OneValue.{IsKnownAlike, IsOneStart, AdvertisementsAreDetermined}
 use Rattle.ipx_router.specs.RouterPackets.{AreRoutePackets, AreServicePackets, SendingView, all_nodes}
 use Rattle.ipx_router.specs.Starting.{AreAsked, all_asked}
-use Rattle.ipx_router.specs.Telling.{AreAdvertisements, AreAdvertised, TellsIfDue, is_due}
-use Rattle.ipx_router.specs.Told.{AreAdvertisedRoutes, AreAdvertisedServices, IsAdvertisedRoute, IsAdvertisedService, key_of_service, route_key}
+use Rattle.ipx_router.specs.Advertisements.{AreAdvertisements, AreAdvertised, TellsIfDue, is_due}
+use Rattle.ipx_router.specs.AdvertisedEntries.{AreAdvertisedRoutes, AreAdvertisedServices, IsAdvertisedRoute, IsAdvertisedService, key_of_service, route_key}
 use Rattle.ipx_router.proofs.Rising.{network_total}
 use Rattle.ipx_router.proofs.OneList.{list_is_one}
 use Rattle.ipx_router.proofs.OneAnswer.{Facts, key_total, rip_packet_one, route_packets_one, sap_packet_one, service_packets_one}

@@ -18,7 +18,7 @@ use Rattle.ipx_router.specs.declared.port.PortNow.{PortNow}
 use Rattle.ipx_router.specs.declared.route.Route.{Route}
 use Rattle.ipx_router.specs.Knowledge.{Routes, Services}
 use Rattle.ipx_router.specs.RouteChoice.{IsHeardRoute, IsRouteOrNone, IsRouteTo, over_port}
-use Rattle.ipx_router.specs.Told.{AreAdvertisedServices, IsListOf, IsAdvertisedRoute, IsAdvertisedService, key_of_service, advertised_route}
+use Rattle.ipx_router.specs.AdvertisedEntries.{AreAdvertisedServices, IsListOf, IsAdvertisedRoute, IsAdvertisedService, key_of_service, advertised_route}
 use Rattle.ipx_router.specs.Replying.{AreServicesAsked, AreAdvertisedOf, asks_all, is_of_kind}
 use Rattle.ipx_router.specs.Picking.{IsAdvertisedOf}
 use Rattle.ipx_router.proofs.Members.{filter_has, filter_only}

@@ -41,7 +41,7 @@ known_same ports now old_routes routes old_services services r s = λ i. record 
 -- ---- on the port of this number
 
 module _ {O : Type 0} (old : RouterView) (port now : ℕ) (bytes : List ℕ) (arrived : Port) (is : IsPort old.ports port arrived) where
-  pub receives_on : (view : O → OutcomeView) → (new : RouterView) → KeepsAllButOffers old new → new.told ≡ old.told → AreTables (tables new)
+  pub receives_on : (view : O → OutcomeView) → (new : RouterView) → KeepsAllButOffers old new → new.advertised_at ≡ old.advertised_at → AreTables (tables new)
       → (o : Result O OutOfMemory) → IfOk o (λ x. AnswersBytes (known_at old now) (record { number = port; port = arrived; now = now }) bytes (view x) (tables new))
       → IfOk o (λ x. Receives old port bytes now (view x) new)
   receives_on view new rest told valid (Ok x) a = record { answers = (arrived, is, a); rest = rest; told = told; valid = valid }

@@ -16,7 +16,7 @@ use Rattle.ipx_wire.specs.declared.address.Network.{Network}
 use Rattle.ipx_control.specs.declared.rip.packet.RipEntry.{RipEntry}
 use Rattle.ipx_tables.specs.Route.{network_cmp, network_exact}
 use Rattle.ipx_tables.specs.Sorted.{IsRising, IsAtKey, IsGapFor}
-use Rattle.ipx_router.specs.Told.{route_key}
+use Rattle.ipx_router.specs.AdvertisedEntries.{route_key}
 use Rattle.ipx_router.specs.Placing.{PutsEntry}
 
 module _ {X K : Type 0} {cmp : K → K → Ordering} (o : IsTotalOrder cmp) (key_of : X → K) (xs : List X) where

@@ -14,7 +14,7 @@ use Rattle.ipx_tables.specs.Route.{network_cmp, route_before}
 use Rattle.ipx_router.specs.declared.port.Port.{Port}
 use Rattle.ipx_router.specs.declared.port.PortNow.{PortNow}
 use Rattle.ipx_router.specs.Knowledge.{Routes}
-use Rattle.ipx_router.specs.Told.{AreAdvertisedRoutes, IsAdvertisedRoute, advertised_route}
+use Rattle.ipx_router.specs.AdvertisedEntries.{AreAdvertisedRoutes, IsAdvertisedRoute, advertised_route}
 use Rattle.ipx_router.specs.Placing.{is_advertised_item}
 use Rattle.ipx_router.specs.Replying.{AreRoutesAsked, AreAdvertisedOf, asks_all}
 use Rattle.ipx_router.specs.OutOfMemoryCases.{HasRouteToReply}

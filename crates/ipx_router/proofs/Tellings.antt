@@ -12,12 +12,12 @@ use Rattle.ipx_router.specs.declared.packets.Recipient.{Recipient}
 use Rattle.ipx_router.specs.declared.port.Port.{Port}
 use Rattle.ipx_router.specs.declared.port.PortNow.{PortNow}
 use Rattle.ipx_router.specs.Knowledge.{Routes, Services}
-use Rattle.ipx_router.specs.Told.{AreAdvertisedRoutes, AreAdvertisedServices}
+use Rattle.ipx_router.specs.AdvertisedEntries.{AreAdvertisedRoutes, AreAdvertisedServices}
 use Rattle.ipx_router.specs.RouterPackets.{AreRoutePackets, AreServicePackets, IsRipPacket, IsSapPacket, SendingView, all_nodes, sending_of, sendings}
 use Rattle.ipx_router.specs.Adding.{AddsPackets}
 use Rattle.ipx_router.specs.Ports.{AreOnPorts, IsPortNumber}
 use Rattle.ipx_router.specs.Starting.{AreAsked, AreStarts, all_asked}
-use Rattle.ipx_router.specs.Telling.{AreAdvertisements, AreAdvertised}
+use Rattle.ipx_router.specs.Advertisements.{AreAdvertisements, AreAdvertised}
 use Rattle.ipx_router.proofs.Cuts.{route_packets_port, service_packets_port, sendings_one}
 
 -- all leave by this port

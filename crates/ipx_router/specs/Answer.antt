@@ -15,8 +15,8 @@ use Rattle.ipx_tables.specs.declared.service.ServiceKey.{ServiceKey}
 use Rattle.ipx_tables.specs.declared.service.ServiceMetric.{ServiceMetric}
 use Rattle.ipx_tables.specs.declared.source.Source.{Source}
 use Rattle.ipx_tables.specs.Content.{Table}
-use Rattle.ipx_router.specs.declared.classify.Concern.{Concern}
-use Rattle.ipx_router.specs.declared.classify.Concern.TheVariants as concerns
+use Rattle.ipx_router.specs.declared.classify.PacketClass.{PacketClass}
+use Rattle.ipx_router.specs.declared.classify.PacketClass.TheVariants as classes
 use Rattle.ipx_router.specs.declared.port.Port.{Port}
 use Rattle.ipx_router.specs.declared.port.PortNow.{PortNow}
 use Rattle.ipx_router.specs.declared.reason.Reason.TheVariants.{Bad, BadControl, TableFull}
@@ -25,7 +25,7 @@ use Rattle.ipx_router.specs.OutcomeView.{OutcomeView, Forward, Replies, Heard, D
 use Rattle.ipx_router.specs.Knowledge.{AreTables, HoldsKnown, HoldsRoutes, HoldsServices, KeepsAllButOffers, Known, Routes, Services, Tables, known_at, tables}
 use Rattle.ipx_router.specs.Ports.{IsPort}
 use Rattle.ipx_router.specs.RouterPackets.{SendingView, recipient_at}
-use Rattle.ipx_router.specs.Classify.{concern_of}
+use Rattle.ipx_router.specs.Classify.{class_of}
 use Rattle.ipx_router.specs.Forward.{Forwards}
 use Rattle.ipx_router.specs.Replying.{RepliesRoutes, RepliesServices}
 use Rattle.ipx_router.specs.Hearing.{AtEntry, HeardRoutes, HeardServices, IsFullForRoute, IsFullForService, is_heard, source_of}
@@ -83,18 +83,18 @@ AnswersSap services at d a new = MatchOption (sap_fault d.body)
     (λ f. (a ≡ Dropped (BadControl f)) × HoldsServices new services)
 
 -- by what the packet is to the router
-abbrev pub AnswersByConcern : Known → PortNow → PacketView → OutcomeView → Tables → Concern → Type 0
-AnswersByConcern k at d a new (concerns.Dropped reason) = (a ≡ Dropped reason) × HoldsKnown k new
-AnswersByConcern k at d a new concerns.Rip =
+abbrev pub AnswersByClass : Known → PortNow → PacketView → OutcomeView → Tables → PacketClass → Type 0
+AnswersByClass k at d a new (classes.Dropped reason) = (a ≡ Dropped reason) × HoldsKnown k new
+AnswersByClass k at d a new classes.Rip =
     AnswersRip k.ports k.routes at d a new.0 × HoldsServices new.1 k.services
-AnswersByConcern k at d a new concerns.Sap =
+AnswersByClass k at d a new classes.Sap =
     AnswersSap k.services at d a new.1 × HoldsRoutes new.0 k.routes
-AnswersByConcern k at d a new concerns.Forward =
+AnswersByClass k at d a new classes.Forward =
     Forwards k.ports k.routes at d a × HoldsKnown k new
 
 abbrev pub AnswersPacket : Known → PortNow → List ℕ → OutcomeView → Tables → Type 0
 AnswersPacket k at bytes a new = (d : PacketView) × (tail : List ℕ) × IsIpx d bytes tail
-    × AnswersByConcern k at d a new (concern_of at.port d.header)
+    × AnswersByClass k at d a new (class_of at.port d.header)
 
 -- bytes that are no packet are dropped
 abbrev pub AnswersBytes : Known → PortNow → List ℕ → OutcomeView → Tables → Type 0
@@ -115,5 +115,5 @@ pub record Receives (old : RouterView) (port : ℕ) (bytes : List ℕ) (now : �
     (new : RouterView) : Type 0 where
   pub answers : RouterAnswers old port bytes now a new
   pub rest : KeepsAllButOffers old new
-  pub told : new.told ≡ old.told
+  pub told : new.advertised_at ≡ old.advertised_at
   pub valid : AreTables (tables new)

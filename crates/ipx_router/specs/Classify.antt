@@ -5,8 +5,8 @@ use Rattle.ipx_wire.specs.declared.address.Node.{Node}
 use Rattle.ipx_wire.specs.declared.ipx.packet.IpxHeader.{IpxHeader}
 use Rattle.ipx_wire.specs.Assigned.{local_network, netbios_propagation_type, rip_socket, sap_socket}
 use Rattle.ipx_router.specs.declared.port.Port.{Port}
-use Rattle.ipx_router.specs.declared.classify.Concern.{Concern}
-use Rattle.ipx_router.specs.declared.classify.Concern.TheVariants.{Dropped, Rip, Sap, Forward}
+use Rattle.ipx_router.specs.declared.classify.PacketClass.{PacketClass}
+use Rattle.ipx_router.specs.declared.classify.PacketClass.TheVariants.{Dropped, Rip, Sap, Forward}
 use Rattle.ipx_router.specs.declared.reason.Reason.TheVariants.{Propagated, NotOurs}
 use Rattle.ipx_router.specs.RouterPackets.{broadcast}
 
@@ -21,8 +21,8 @@ is_from_neighbour arrived h =
     && ((h.from.network.0 == local_network) || (h.from.network.0 == arrived.network.0))
     && not (is_node h.from.node arrived.node)
 
-abbrev pub concern_on_network : Port → IpxHeader → Concern
-concern_on_network arrived h =
+abbrev pub class_on_network : Port → IpxHeader → PacketClass
+class_on_network arrived h =
     if is_from_neighbour arrived h then (
     if h.to.socket.0 == rip_socket then Rip
     else if h.to.socket.0 == sap_socket then Sap
@@ -31,9 +31,9 @@ concern_on_network arrived h =
     else Dropped NotOurs
 
 -- packets of type 20 are not propagated; a packet for the local network is control, or not for the router
-abbrev pub concern_of : Port → IpxHeader → Concern
-concern_of arrived h =
+abbrev pub class_of : Port → IpxHeader → PacketClass
+class_of arrived h =
     if h.kind == netbios_propagation_type then Dropped Propagated
     else if (h.to.network.0 == local_network) || (h.to.network.0 == arrived.network.0)
-    then concern_on_network arrived h
+    then class_on_network arrived h
     else Forward

@@ -18,7 +18,7 @@ use Rattle.ipx_tables.specs.Service.{service_dead, service_key_cmp}
 use Rattle.ipx_router.specs.declared.port.Port.{Port}
 use Rattle.ipx_router.specs.declared.port.PortNow.{PortNow}
 use Rattle.ipx_router.specs.Knowledge.{Routes, Services}
-use Rattle.ipx_router.specs.Told.{key_of_service}
+use Rattle.ipx_router.specs.AdvertisedEntries.{key_of_service}
 
 -- the source of a response: the node that sent it, on the port that it came in on
 abbrev pub source_of : PortNow → IpxHeader → Source
@@ -59,7 +59,7 @@ module _ (source : Source) (now : ℕ) where
 pub record HeardFirst {K M E : Type 0} (cmp : K → K → Ordering) (after : List E → Content K M)
     (entries : List E) (n : ℕ) (new : Table K M) : Type 0 where
   pub within : n ≤ length entries
-  pub room : (m : ℕ) → m ≤ n → Fits cmp new.most (after (take m entries))
+  pub room : (m : ℕ) → m ≤ n → Fits cmp new.capacity (after (take m entries))
   pub holds : (p : K × Source) → content cmp new.offers p ≡ after (take n entries) p
 
 abbrev pub HeardRoutes : List Port → Source → ℕ → List RipEntry → Routes → ℕ

@@ -63,8 +63,8 @@ tables r = (r.routes, r.services)
 pub record AreTables (t : Tables) : Type 0 where
   pub routes : IsTable network_cmp t.0
   pub services : IsTable service_key_cmp t.1
-  pub most_routes : t.0.most ≡ 1024
-  pub most_services : t.1.most ≡ 4096
+  pub most_routes : t.0.capacity ≡ 1024
+  pub most_services : t.1.capacity ≡ 4096
 
 -- tables hold just what is known
 pub record HoldsKnown (k : Known) (new : Tables) : Type 0 where
@@ -74,5 +74,5 @@ pub record HoldsKnown (k : Known) (new : Tables) : Type 0 where
 -- all that a router's calls keep: everything except the offers that it holds
 pub record KeepsAllButOffers (old new : RouterView) : Type 0 where
   pub ports : new.ports ≡ old.ports
-  pub most_routes : new.routes.most ≡ old.routes.most
-  pub most_services : new.services.most ≡ old.services.most
+  pub most_routes : new.routes.capacity ≡ old.routes.capacity
+  pub most_services : new.services.capacity ≡ old.services.capacity

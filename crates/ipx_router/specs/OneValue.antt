@@ -8,7 +8,7 @@ use Rattle.ipx_router.specs.declared.port.Port.{Port}
 use Rattle.ipx_router.specs.Knowledge.{HoldsKnown, HoldsRoutes, HoldsServices, Known, Tables, routes_in, services_in}
 use Rattle.ipx_router.specs.RouterPackets.{SendingView}
 use Rattle.ipx_router.specs.Starting.{AreStarts}
-use Rattle.ipx_router.specs.Telling.{TellsIfDue}
+use Rattle.ipx_router.specs.Advertisements.{TellsIfDue}
 
 -- the same ports, and the same known of each network, service and source
 pub record IsKnownAlike (k other : Known) : Type 0 where

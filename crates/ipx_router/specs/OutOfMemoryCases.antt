@@ -16,8 +16,8 @@ use Rattle.ipx_tables.specs.declared.service.ServiceKey.{ServiceKey}
 use Rattle.ipx_tables.specs.declared.service.ServiceMetric.{ServiceMetric}
 use Rattle.ipx_tables.specs.declared.source.Source.{Source}
 use Rattle.ipx_tables.specs.Content.{Table}
-use Rattle.ipx_router.specs.declared.classify.Concern.{Concern}
-use Rattle.ipx_router.specs.declared.classify.Concern.TheVariants as concerns
+use Rattle.ipx_router.specs.declared.classify.PacketClass.{PacketClass}
+use Rattle.ipx_router.specs.declared.classify.PacketClass.TheVariants as classes
 use Rattle.ipx_router.specs.declared.port.Port.{Port}
 use Rattle.ipx_router.specs.declared.port.PortNow.{PortNow}
 use Rattle.ipx_router.specs.declared.route.Route.{Route}
@@ -25,8 +25,8 @@ use Rattle.ipx_router.specs.RouterView.{RouterView}
 use Rattle.ipx_router.specs.Knowledge.{HoldsKnown, HoldsRoutes, HoldsServices, Known, Routes, Services, Tables, known_at, tables}
 use Rattle.ipx_router.specs.Ports.{IsPort}
 use Rattle.ipx_router.specs.RouteChoice.{IsRouteTo}
-use Rattle.ipx_router.specs.Told.{IsAdvertisedRoute, IsAdvertisedService}
-use Rattle.ipx_router.specs.Classify.{concern_of}
+use Rattle.ipx_router.specs.AdvertisedEntries.{IsAdvertisedRoute, IsAdvertisedService}
+use Rattle.ipx_router.specs.Classify.{class_of}
 use Rattle.ipx_router.specs.Replying.{is_asked}
 use Rattle.ipx_router.specs.Hearing.{AtEntry, GrowsByRoute, GrowsByService, HeardRoutes, HeardServices, source_of}
 
@@ -92,18 +92,18 @@ pub record HasToForward (ports : List Port) (routes : Routes) (at : PortNow)
   pub hops : h.hops < 15
 
 -- a packet that is dropped by its header needs no memory
-abbrev pub ConcernOutOfMemory : Known → PortNow → PacketView → Tables → Concern → Type 0
-ConcernOutOfMemory k at d new (concerns.Dropped reason) = ⊥
-ConcernOutOfMemory k at d new concerns.Rip =
+abbrev pub ClassOutOfMemory : Known → PortNow → PacketView → Tables → PacketClass → Type 0
+ClassOutOfMemory k at d new (classes.Dropped reason) = ⊥
+ClassOutOfMemory k at d new classes.Rip =
     RipOutOfMemory k.ports k.routes at d new.0 × HoldsServices new.1 k.services
-ConcernOutOfMemory k at d new concerns.Sap =
+ClassOutOfMemory k at d new classes.Sap =
     SapOutOfMemory k.services at d new.1 × HoldsRoutes new.0 k.routes
-ConcernOutOfMemory k at d new concerns.Forward =
+ClassOutOfMemory k at d new classes.Forward =
     HasToForward k.ports k.routes at d.header × HoldsKnown k new
 
 abbrev pub BytesOutOfMemory : Known → PortNow → List ℕ → Tables → Type 0
 BytesOutOfMemory k at bytes new = (d : PacketView) × (tail : List ℕ) × IsIpx d bytes tail
-    × ConcernOutOfMemory k at d new (concern_of at.port d.header)
+    × ClassOutOfMemory k at d new (class_of at.port d.header)
 
 -- when a router may run out of memory for bytes that come in on its port of this number at a time, and the
 -- offers that it holds after that
@@ -115,7 +115,7 @@ RunsOutOfMemory old port bytes now new = (arrived : Port) × IsPort old.ports po
 -- no packet that bytes begin with is for another network
 abbrev pub NoneIsOnward : Port → List ℕ → Type 0
 NoneIsOnward arrived bytes =
-    (d : PacketView) → BeginsWith bytes d → concern_of arrived d.header ≢ concerns.Forward
+    (d : PacketView) → BeginsWith bytes d → class_of arrived d.header ≢ classes.Forward
 
 abbrev pub BytesOutOfMemoryInPlace : Known → PortNow → List ℕ → Tables → Type 0
 BytesOutOfMemoryInPlace k at bytes new = NoneIsOnward at.port bytes × BytesOutOfMemory k at bytes new

@@ -7,7 +7,7 @@ use Rattle.ipx_tables.specs.declared.service.ServiceKey.{ServiceKey}
 use Rattle.ipx_tables.specs.declared.service.ServiceMetric.{ServiceMetric}
 use Rattle.ipx_tables.specs.declared.source.Source.{Source}
 use Rattle.ipx_router.specs.declared.port.PortNow.{PortNow}
-use Rattle.ipx_router.specs.Told.{advertised_service}
+use Rattle.ipx_router.specs.AdvertisedEntries.{advertised_service}
 use Rattle.ipx_router.specs.Replying.{is_asked, is_nearer}
 
 -- what is advertised of a network, or that nothing is

@@ -12,7 +12,7 @@ use Rattle.ipx_tables.specs.Sorted.{IsRising}
 use Rattle.ipx_router.specs.declared.port.Port.{Port}
 use Rattle.ipx_router.specs.declared.port.PortNow.{PortNow}
 use Rattle.ipx_router.specs.RouteChoice.{direct_route}
-use Rattle.ipx_router.specs.Told.{route_key, advertised_route, advertised_service}
+use Rattle.ipx_router.specs.AdvertisedEntries.{route_key, advertised_route, advertised_service}
 
 -- the list has an entry of the network
 abbrev pub HasNetwork : List RipEntry → Network → Type 0

@@ -1,10 +1,10 @@
 -- Definitions for the private function that answers RIP and SAP.
 use Rattle.ipx_router.specs.declared.answering.Protocol.{Protocol}
 use Rattle.ipx_router.specs.declared.answering.Protocol.TheVariants as protocols
-use Rattle.ipx_router.specs.declared.classify.Concern.{Concern}
-use Rattle.ipx_router.specs.declared.classify.Concern.TheVariants.{Rip, Sap}
+use Rattle.ipx_router.specs.declared.classify.PacketClass.{PacketClass}
+use Rattle.ipx_router.specs.declared.classify.PacketClass.TheVariants.{Rip, Sap}
 
--- the concern of a packet that this protocol answers
-abbrev pub concern_of_protocol : Protocol → Concern
-concern_of_protocol protocols.Rip = Rip
-concern_of_protocol protocols.Sap = Sap
+-- the packet_class of a packet that this protocol answers
+abbrev pub class_of_protocol : Protocol → PacketClass
+class_of_protocol protocols.Rip = Rip
+class_of_protocol protocols.Sap = Sap

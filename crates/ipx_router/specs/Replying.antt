@@ -13,7 +13,7 @@ use Rattle.ipx_router.specs.declared.port.Port.{Port}
 use Rattle.ipx_router.specs.declared.port.PortNow.{PortNow}
 use Rattle.ipx_router.specs.Knowledge.{Routes, Services}
 use Rattle.ipx_router.specs.RouterPackets.{AreRoutePackets, AreServicePackets, SendingView}
-use Rattle.ipx_router.specs.Told.{AreAdvertisedRoutes, IsListOf, IsAdvertisedRoute, IsAdvertisedService, key_of_service}
+use Rattle.ipx_router.specs.AdvertisedEntries.{AreAdvertisedRoutes, IsListOf, IsAdvertisedRoute, IsAdvertisedService, key_of_service}
 
 -- an entry for network FFFFFFFF asks for all
 abbrev pub asks_all : List RipEntry → Bool

@@ -7,14 +7,14 @@ ghost use Rattle.ipx_tables.specs.Route.{network_cmp};
 ghost use Rattle.ipx_tables.specs.Service.{service_key_cmp};
 ghost use Rattle.ipx_router.specs.Knowledge.{known_aged, known_in, routes_in, services_in};
 ghost use Rattle.ipx_router.specs.Ports.{AreFromPorts, IsPortNumber, IsSound};
-ghost use Rattle.ipx_router.specs.Classify.{concern_of};
-ghost use Rattle.ipx_router.specs.Protocols.{concern_of_protocol};
+ghost use Rattle.ipx_router.specs.Classify.{class_of};
+ghost use Rattle.ipx_router.specs.Protocols.{class_of_protocol};
 ghost use Rattle.ipx_router.specs.OutcomeView.{Dropped, Heard, IsOnPort, router_outcome};
-ghost use Rattle.ipx_router.specs.Answer.{AnswersByConcern, AnswersBytes, AnswersRip, AnswersSap};
-ghost use Rattle.ipx_router.specs.OutOfMemoryCases.{BytesOutOfMemory, ConcernOutOfMemory, RipOutOfMemory, SapOutOfMemory};
+ghost use Rattle.ipx_router.specs.Answer.{AnswersByClass, AnswersBytes, AnswersRip, AnswersSap};
+ghost use Rattle.ipx_router.specs.OutOfMemoryCases.{BytesOutOfMemory, ClassOutOfMemory, RipOutOfMemory, SapOutOfMemory};
 ghost use Rattle.ipx_router.specs.Forwarded.{ForwardsEachReading, ForwardsPacket, IsForwardOf};
 
-use crate::classify::{Concern, concern_with};
+use crate::classify::{PacketClass, classify};
 use crate::forwarding::forward;
 use crate::hearing::{hear_routes, hear_services, neighbour_of};
 use crate::outcome::Outcome;
@@ -60,7 +60,7 @@ fn answer_rip(
         routes.new) }
     ensures refused { OnErr result
         (RipOutOfMemory ports.now (routes_in routes.old) at (packet_view packet.entry) routes.new) }
-    ensures most { routes.new.most ≡ routes.old.most }
+    ensures capacity { routes.new.capacity ≡ routes.old.capacity }
     ensures valid { IsTable network_cmp routes.new }
     ensures sources { (count : ℕ) → IsPortNumber count at.number
         → AreFromPorts count (routes_in routes.old) → AreFromPorts count (routes_in routes.new) }
@@ -93,7 +93,7 @@ fn answer_sap(
         services.new) }
     ensures refused { OnErr result
         (SapOutOfMemory (services_in services.old) at (packet_view packet.entry) services.new) }
-    ensures most { services.new.most ≡ services.old.most }
+    ensures capacity { services.new.capacity ≡ services.old.capacity }
     ensures valid { IsTable service_key_cmp services.new }
     ensures sources { (count : ℕ) → IsPortNumber count at.number
         → AreFromPorts count (services_in services.old)
@@ -133,16 +133,16 @@ fn answer_control(
     requires sound { IsSound ports.now (routes.old, services.old) }
     requires port { IsPortNumber (length ports.now) at.number }
     ensures answer { IfOk result (λ o.
-        AnswersByConcern (known_in ports.now routes.old services.old) at (packet_view packet.entry)
-        (router_outcome o) (routes.new, services.new) (concern_of_protocol protocol)) }
+        AnswersByClass (known_in ports.now routes.old services.old) at (packet_view packet.entry)
+        (router_outcome o) (routes.new, services.new) (class_of_protocol protocol)) }
     ensures refused { OnErr result
-        (ConcernOutOfMemory (known_in ports.now routes.old services.old) at
+        (ClassOutOfMemory (known_in ports.now routes.old services.old) at
         (packet_view packet.entry) (routes.new, services.new)
-        (concern_of_protocol protocol)) }
+        (class_of_protocol protocol)) }
     ensures one_hop_on { IfOk result (λ o.
         IsForwardOf at.port (packet_view packet.entry) (router_outcome o)) }
     ensures there { IfOk result (λ o. IsOnPort (length ports.now) (router_outcome o)) }
-    ensures most { (routes.new.most ≡ routes.old.most) × (services.new.most ≡ services.old.most) }
+    ensures capacity { (routes.new.capacity ≡ routes.old.capacity) × (services.new.capacity ≡ services.old.capacity) }
     ensures sound { IsSound ports.now (routes.new, services.new) }
 {
     match protocol {
@@ -164,27 +164,27 @@ fn answer_packet(
     requires sound { IsSound ports.now (routes.old, services.old) }
     requires port { IsPortNumber (length ports.now) at.number }
     ensures answer { IfOk result (λ o.
-        AnswersByConcern (known_in ports.now routes.old services.old) at (packet_view packet.entry)
-        (router_outcome o) (routes.new, services.new) (concern_of at.port packet.entry.header)) }
+        AnswersByClass (known_in ports.now routes.old services.old) at (packet_view packet.entry)
+        (router_outcome o) (routes.new, services.new) (class_of at.port packet.entry.header)) }
     ensures refused { OnErr result
-        (ConcernOutOfMemory (known_in ports.now routes.old services.old) at
+        (ClassOutOfMemory (known_in ports.now routes.old services.old) at
         (packet_view packet.entry) (routes.new, services.new)
-        (concern_of at.port packet.entry.header)) }
+        (class_of at.port packet.entry.header)) }
     ensures one_hop_on { IfOk result (λ o.
         IsForwardOf at.port (packet_view packet.entry) (router_outcome o)) }
     ensures there { IfOk result (λ o. IsOnPort (length ports.now) (router_outcome o)) }
-    ensures most { (routes.new.most ≡ routes.old.most) × (services.new.most ≡ services.old.most) }
+    ensures capacity { (routes.new.capacity ≡ routes.old.capacity) × (services.new.capacity ≡ services.old.capacity) }
     ensures sound { IsSound ports.now (routes.new, services.new) }
 {
-    match concern_with(at.port, packet.header) {
-        Concern::Dropped(reason) => return Ok(Outcome::Dropped(reason)),
-        Concern::Rip => {
+    match classify(at.port, packet.header) {
+        PacketClass::Dropped(reason) => return Ok(Outcome::Dropped(reason)),
+        PacketClass::Rip => {
             return answer_control(alloc, ports, routes, services, at, packet, Protocol::Rip);
         }
-        Concern::Sap => {
+        PacketClass::Sap => {
             return answer_control(alloc, ports, routes, services, at, packet, Protocol::Sap);
         }
-        Concern::Forward => return forward(alloc, ports, routes, at, datagram, packet),
+        PacketClass::Forward => return forward(alloc, ports, routes, at, datagram, packet),
     }
 }
 
@@ -208,7 +208,7 @@ pub fn answer_to(
     ensures packet { IfOk result (λ o. ForwardsPacket bytes.now (router_outcome o)) }
     ensures one_hop_on { IfOk result (λ o. ForwardsEachReading at.port bytes.now (router_outcome o)) }
     ensures there { IfOk result (λ o. IsOnPort (length ports.now) (router_outcome o)) }
-    ensures most { (routes.new.most ≡ routes.old.most) × (services.new.most ≡ services.old.most) }
+    ensures capacity { (routes.new.capacity ≡ routes.old.capacity) × (services.new.capacity ≡ services.old.capacity) }
     ensures sound { IsSound ports.now (routes.new, services.new) }
 {
     match decode(bytes) {
@@ -238,7 +238,7 @@ pub fn receive_at(
     ensures packet { IfOk result (λ o. ForwardsPacket bytes.now (router_outcome o)) }
     ensures one_hop_on { IfOk result (λ o. ForwardsEachReading at.port bytes.now (router_outcome o)) }
     ensures there { IfOk result (λ o. IsOnPort (length ports.now) (router_outcome o)) }
-    ensures most { (routes.new.most ≡ routes.old.most) × (services.new.most ≡ services.old.most) }
+    ensures capacity { (routes.new.capacity ≡ routes.old.capacity) × (services.new.capacity ≡ services.old.capacity) }
     ensures sound { IsSound ports.now (routes.new, services.new) }
 {
     routes.age(at.now);

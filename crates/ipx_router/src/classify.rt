@@ -1,14 +1,14 @@
 //! How a router classifies a packet by its header.
 
 ghost use Rattle.std.specs.Prelude.{◌≡◌};
-ghost use Rattle.ipx_router.specs.Classify.{concern_of, concern_on_network, is_from_neighbour};
+ghost use Rattle.ipx_router.specs.Classify.{class_of, class_on_network, is_from_neighbour};
 
 use crate::port::Port;
 use crate::reason::Reason;
 use ipx_wire::{IpxHeader, Network, Node, Socket, packet_type};
 
 /// What the router has to do with a packet.
-pub enum Concern {
+pub enum PacketClass {
     Dropped(Reason),
     /// It is for the router's RIP socket.
     Rip,
@@ -26,30 +26,30 @@ fn comes_from_neighbour(arrived: Port, header: IpxHeader) -> bool
     for_us && from_here && header.from.node != arrived.node
 }
 
-fn on_network(arrived: Port, header: IpxHeader) -> Concern
-    ensures { result ≡ concern_on_network arrived header }
+fn on_network(arrived: Port, header: IpxHeader) -> PacketClass
+    ensures { result ≡ class_on_network arrived header }
 {
     if !comes_from_neighbour(arrived, header) {
-        return Concern::Dropped(Reason::NotOurs);
+        return PacketClass::Dropped(Reason::NotOurs);
     }
     if header.to.socket == Socket::RIP {
-        return Concern::Rip;
+        return PacketClass::Rip;
     }
     if header.to.socket == Socket::SAP {
-        return Concern::Sap;
+        return PacketClass::Sap;
     }
-    Concern::Dropped(Reason::NotOurs)
+    PacketClass::Dropped(Reason::NotOurs)
 }
 
 /// Classifies a packet by the port that it came in on and its header.
-pub fn concern_with(arrived: Port, header: IpxHeader) -> Concern
-    ensures { result ≡ concern_of arrived header }
+pub fn classify(arrived: Port, header: IpxHeader) -> PacketClass
+    ensures { result ≡ class_of arrived header }
 {
     if header.kind == packet_type::NETBIOS_PROPAGATION {
-        return Concern::Dropped(Reason::Propagated);
+        return PacketClass::Dropped(Reason::Propagated);
     }
     if header.to.network == Network::LOCAL || header.to.network == arrived.network {
         return on_network(arrived, header);
     }
-    Concern::Forward
+    PacketClass::Forward
 }

@@ -5,7 +5,7 @@ ghost use Rattle.ipx_tables.specs.Content.{IsTable};
 ghost use Rattle.ipx_tables.specs.Route.{network_cmp};
 ghost use Rattle.ipx_tables.specs.Service.{service_key_cmp};
 ghost use Rattle.ipx_router.specs.Knowledge.{routes_in, services_in};
-ghost use Rattle.ipx_router.specs.Told.{key_of_service};
+ghost use Rattle.ipx_router.specs.AdvertisedEntries.{key_of_service};
 ghost use Rattle.ipx_router.specs.Hearing.{AtEntry, GrowsByRoute, GrowsByService, HeardRoutes, HeardServices, IsFullForRoute, IsFullForService, is_heard, source_of};
 ghost use Rattle.ipx_router.specs.Ports.{AreFromPorts, IsPortNumber};
 
@@ -57,7 +57,7 @@ pub fn hear_routes(
         → AtEntry entries.entry n (IsFullForRoute ports.now source routes.new))
         × (f ≡ TableFault.OutOfMemory
         → AtEntry entries.entry n (GrowsByRoute ports.now source routes.new))) }
-    ensures most { routes.new.most ≡ routes.old.most }
+    ensures capacity { routes.new.capacity ≡ routes.old.capacity }
     ensures valid { IsTable network_cmp routes.new }
     ensures sources { (count : ℕ) → IsPortNumber count source.port
         → AreFromPorts count (routes_in routes.old) → AreFromPorts count (routes_in routes.new) }
@@ -95,7 +95,7 @@ pub fn hear_services(
         × (f ≡ TableFault.Full → AtEntry entries.entry n (IsFullForService source services.new))
         × (f ≡ TableFault.OutOfMemory
         → AtEntry entries.entry n (GrowsByService source services.new))) }
-    ensures most { services.new.most ≡ services.old.most }
+    ensures capacity { services.new.capacity ≡ services.old.capacity }
     ensures valid { IsTable service_key_cmp services.new }
     ensures sources { (count : ℕ) → IsPortNumber count source.port
         → AreFromPorts count (services_in services.old)

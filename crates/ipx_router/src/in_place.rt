@@ -11,7 +11,7 @@ ghost use Rattle.ipx_router.specs.OutOfMemoryCases.{BytesOutOfMemoryInPlace, Non
 ghost use Rattle.ipx_router.specs.Forwarded.{ForwardsEachReading, ForwardsPacket};
 
 use crate::answering::answer_to;
-use crate::classify::{Concern, concern_with};
+use crate::classify::{PacketClass, classify};
 use crate::forwarding::forward_front;
 use crate::outcome::{InPlace, Outcome};
 use crate::port::{Port, PortNow};
@@ -29,9 +29,9 @@ fn onward_packet(arrived: Port, bytes: &[u8]) -> Option<(IpxHeader, usize)>
     let Ok(packet) = decode(bytes) else {
         return None;
     };
-    match concern_with(arrived, packet.header) {
-        Concern::Forward => Some((packet.header, IPX_HEADER_SIZE + packet.body.len())),
-        Concern::Dropped(_) | Concern::Rip | Concern::Sap => None,
+    match classify(arrived, packet.header) {
+        PacketClass::Forward => Some((packet.header, IPX_HEADER_SIZE + packet.body.len())),
+        PacketClass::Dropped(_) | PacketClass::Rip | PacketClass::Sap => None,
     }
 }
 
@@ -73,7 +73,7 @@ fn answer_unchanged(
         ForwardsEachReading at.port bytes.now (outcome_in bytes.now o)) }
     ensures there { IfOk result (λ o. IsOnPort (length ports.now) (outcome_in bytes.now o)) }
     ensures stays { IfOk result (ChangesOnlyPacket bytes.now bytes.now) }
-    ensures most { (routes.new.most ≡ routes.old.most) × (services.new.most ≡ services.old.most) }
+    ensures capacity { (routes.new.capacity ≡ routes.old.capacity) × (services.new.capacity ≡ services.old.capacity) }
     ensures sound { IsSound ports.now (routes.new, services.new) }
 {
     let outcome = answer_to(alloc, ports, routes, services, at, bytes)?;
@@ -103,7 +103,7 @@ fn answer_in_place(
     ensures there { IfOk result (λ o. IsOnPort (length ports.now) (outcome_in bytes.new o)) }
     ensures changes { IfOk result (ChangesOnlyPacket bytes.old bytes.new) }
     ensures stays { OnErr result (bytes.new ≡ bytes.old) }
-    ensures most { (routes.new.most ≡ routes.old.most) × (services.new.most ≡ services.old.most) }
+    ensures capacity { (routes.new.capacity ≡ routes.old.capacity) × (services.new.capacity ≡ services.old.capacity) }
     ensures sound { IsSound ports.now (routes.new, services.new) }
 {
     match onward_packet(at.port, bytes) {
@@ -138,7 +138,7 @@ pub fn receive_in_place_at(
     ensures there { IfOk result (λ o. IsOnPort (length ports.now) (outcome_in bytes.new o)) }
     ensures changes { IfOk result (ChangesOnlyPacket bytes.old bytes.new) }
     ensures stays { OnErr result (bytes.new ≡ bytes.old) }
-    ensures most { (routes.new.most ≡ routes.old.most) × (services.new.most ≡ services.old.most) }
+    ensures capacity { (routes.new.capacity ≡ routes.old.capacity) × (services.new.capacity ≡ services.old.capacity) }
     ensures sound { IsSound ports.now (routes.new, services.new) }
 {
     routes.age(at.now);

@@ -16,7 +16,7 @@ pub fn has_network(ports: &[Port], network: Network) -> bool
 }
 
 /// The network of the first port whose network an earlier port has.
-pub fn twin_of(ports: &[Port]) -> Option<Network>
+pub fn duplicate_network(ports: &[Port]) -> Option<Network>
     ensures { result ≡ first_twin [] ports.now }
 {
     for (i, port) in ports.iter().enumerate() {

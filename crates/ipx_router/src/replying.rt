@@ -4,18 +4,18 @@ ghost use Rattle.std.specs.Prelude.{◌≡◌, ◌≤◌, IfNone, IfOk, IfSome, 
 ghost use Rattle.ipx_control.specs.declared.rip.packet.RipEntry.{RipEntry};
 ghost use Rattle.ipx_router.specs.Knowledge.{routes_in, services_in};
 ghost use Rattle.ipx_router.specs.RouterPackets.{AreRoutePackets, sendings};
-ghost use Rattle.ipx_router.specs.Told.{AreAdvertisedRoutes, IsAdvertisedRoute, IsAdvertisedService};
+ghost use Rattle.ipx_router.specs.AdvertisedEntries.{AreAdvertisedRoutes, IsAdvertisedRoute, IsAdvertisedService};
 ghost use Rattle.ipx_router.specs.Replying.{IsNearest, NoneIsNear, AreRoutesAsked, RepliesRoutes, RepliesServices, asks_all, is_asked, is_near, is_nearer, is_of_kind};
 ghost use Rattle.ipx_router.specs.Picking.{is_item_asked, nearer};
 ghost use Rattle.ipx_router.specs.OutOfMemoryCases.{HasRouteToReply, HasToReply};
 
+use crate::advertised::{
+    advertised_entry, advertised_ports, advertised_service_of, is_over_other_neighbour, told_of,
+};
 use crate::outcome::Reply;
 use crate::packets::{Recipient, add_route_packets, add_service_packets};
 use crate::packing::{RoutePackets, ServicePackets};
 use crate::port::{Port, PortNow};
-use crate::told::{
-    advertised_entry, advertised_ports, advertised_service_of, is_over_other_neighbour, told_of,
-};
 use ipx_control::{RipEntries, RipEntry, ServiceEntry};
 use ipx_tables::{
     RouteMetric, RouteTable, ServiceKey, ServiceMetric, ServiceTable, Source, one_best,

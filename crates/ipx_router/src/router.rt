@@ -11,16 +11,16 @@ ghost use Rattle.ipx_router.specs.Answer.{Receives};
 ghost use Rattle.ipx_router.specs.OutOfMemoryCases.{RunsOutOfMemory, RunsOutOfMemoryInPlace};
 ghost use Rattle.ipx_router.specs.Forwarded.{ForwardsOneHopOn};
 ghost use Rattle.ipx_router.specs.Starting.{AreStarts};
-ghost use Rattle.ipx_router.specs.Telling.{HasToTell, IsNextAdvertisement, TellsIfDue, is_due};
+ghost use Rattle.ipx_router.specs.Advertisements.{HasToTell, IsNextAdvertisement, TellsIfDue, is_due};
 
+use crate::advertising::{next_time, tell_at};
 use crate::answering::receive_at;
 use crate::fault::NewFault;
 use crate::in_place::receive_in_place_at;
-use crate::networks::twin_of;
+use crate::networks::duplicate_network;
 use crate::outcome::{InPlace, Outcome, Reply};
 use crate::port::{Port, PortNow};
 use crate::starting::ask_all;
-use crate::telling::{next_time, tell_at};
 use ipx_tables::{RouteTable, ServiceTable, route_table, service_table};
 use ipx_wire::OutOfMemory;
 use std::alloc::Global;
@@ -32,7 +32,7 @@ pub struct Router {
     ports: Vec<Port>,
     routes: RouteTable,
     services: ServiceTable,
-    told: Option<u64>,
+    advertised_at: Option<u64>,
 }
 
 impl Model for Router {
@@ -45,7 +45,7 @@ impl Model for Router {
       ports = r.ports.items;
       routes = r.routes;
       services = r.services;
-      told = r.told;
+      advertised_at = r.advertised_at;
     } };
 
     ghost invariant = { λ r. IsSound r.ports.items (r.routes, r.services) };
@@ -61,8 +61,8 @@ impl Router {
         requires { All IsOwnNetwork ports.items }
         ensures ports { IfOk result (λ r. r.ports ≡ ports.items) }
         ensures knows_nothing { IfOk result (λ r.
-            (r.routes.offers ≡ []) × (r.services.offers ≡ []) × (r.told ≡ None)) }
-        ensures room { IfOk result (λ r. (r.routes.most ≡ 1024) × (r.services.most ≡ 4096)) }
+            (r.routes.offers ≡ []) × (r.services.offers ≡ []) × (r.advertised_at ≡ None)) }
+        ensures room { IfOk result (λ r. (r.routes.capacity ≡ 1024) × (r.services.capacity ≡ 4096)) }
         ensures valid { IfOk result (λ r. AreTables (tables r)) }
         ensures networks { IfOk result (λ r. All IsOwnNetwork r.ports) }
         ensures sound { OnOk result (ports_fault ports.items ≡ None) }
@@ -74,14 +74,14 @@ impl Router {
         if ports.len() > 16 {
             return Err(NewFault::TooManyPorts(ports.len()));
         }
-        if let Some(network) = twin_of(&ports) {
+        if let Some(network) = duplicate_network(&ports) {
             return Err(NewFault::TwinNetwork(network));
         }
         Ok(Router {
             ports,
             routes: route_table(alloc),
             services: service_table(alloc),
-            told: None,
+            advertised_at: None,
         })
     }
 
@@ -128,7 +128,7 @@ impl Router {
         ensures rest { KeepsAllButOffers self.old self.new }
         ensures valid { AreTables (tables self.new) }
         ensures networks { All IsOwnNetwork self.new.ports }
-        ensures told { self.new.told ≡ self.old.told }
+        ensures told { self.new.advertised_at ≡ self.old.advertised_at }
     {
         let at = PortNow {
             number: port,
@@ -171,7 +171,7 @@ impl Router {
         ensures rest { KeepsAllButOffers self.old self.new }
         ensures valid { AreTables (tables self.new) }
         ensures networks { All IsOwnNetwork self.new.ports }
-        ensures told { self.new.told ≡ self.old.told }
+        ensures told { self.new.advertised_at ≡ self.old.advertised_at }
     {
         let at = PortNow {
             number: port,
@@ -207,9 +207,9 @@ impl Router {
     /// memory runs out, the advertisement is still due.
     pub fn tell(&mut self, alloc: Global, now: u64) -> Result<Vec<Reply>, OutOfMemory>
         ensures tells { IfOk result (λ v.
-            TellsIfDue (known_at self.old now) self.old.told now (sendings v.items) self.new.told) }
-        ensures refused { OnErr result ((is_due self.old.told now ≡ true)
-            × HasToTell (known_at self.old now) now × (self.new.told ≡ self.old.told)) }
+            TellsIfDue (known_at self.old now) self.old.advertised_at now (sendings v.items) self.new.advertised_at) }
+        ensures refused { OnErr result ((is_due self.old.advertised_at now ≡ true)
+            × HasToTell (known_at self.old now) now × (self.new.advertised_at ≡ self.old.advertised_at)) }
         ensures known { HoldsKnown (known_at self.old now) (tables self.new) }
         ensures there { IfOk result (λ v. AreOnPorts (length self.old.ports) (sendings v.items)) }
         ensures own { IfOk result (λ v. AreOwn (sendings v.items)) }
@@ -222,7 +222,7 @@ impl Router {
             &self.ports,
             &mut self.routes,
             &mut self.services,
-            &mut self.told,
+            &mut self.advertised_at,
             now,
         )
     }
@@ -247,8 +247,8 @@ impl Router {
     ///
     /// A caller that waits for datagrams wakes at this time, and calls `tell`.
     pub fn next_advertisement(&self) -> Option<u64>
-        ensures { IsNextAdvertisement self.now.told result }
+        ensures { IsNextAdvertisement self.now.advertised_at result }
     {
-        next_time(self.told)
+        next_time(self.advertised_at)
     }
 }

@@ -4,9 +4,9 @@ use Rattle.std.proofs.lemmas.Bool.Decides.{nat_tests}
 use Rattle.ipx_wire.specs.Assigned.{netbios_propagation_type, rip_socket, sap_socket}
 use Rattle.ipx_wire.specs.declared.ipx.packet.IpxHeader.{IpxHeader}
 use Rattle.ipx_wire.specs.declared.address.Network.{Network}
-use Rattle.ipx_router.specs.Classify.{concern_of, is_from_neighbour, is_node}
+use Rattle.ipx_router.specs.Classify.{class_of, is_from_neighbour, is_node}
 use Rattle.ipx_router.specs.RouterPackets.{broadcast}
-use Rattle.ipx_router.specs.declared.classify.Concern.TheVariants.{Dropped, Rip, Sap, Forward}
+use Rattle.ipx_router.specs.declared.classify.PacketClass.TheVariants.{Dropped, Rip, Sap, Forward}
 use Rattle.ipx_router.specs.declared.port.Port.{Port}
 use Rattle.ipx_router.specs.declared.reason.Reason.TheVariants.{Propagated, NotOurs}
 use Rattle.ipx_source_checks.specs.SourceChecks.{is_control}
@@ -60,7 +60,7 @@ said all over control to from unrouted named c t f u h =
 none_over : (hops : ℕ) → not (hops == 0) ≡ false → hops ≡ 0
 none_over hops h = grind (arith, nat_tests)
 
-at_port : (at : Port) (from : Option (List ℕ)) (h : IpxHeader) → source_matches_sender at.network from h ≡ true → is_control (concern_of at h) ≡ true
+at_port : (at : Port) (from : Option (List ℕ)) (h : IpxHeader) → source_matches_sender at.network from h ≡ true → is_control (class_of at h) ≡ true
     → (is_node_of h.from.node from ≡ true) × (h.hops ≡ 0)
 at_port at from h own control =
     let f = h.from.network.0 in

@@ -8,7 +8,8 @@ use Rattle.ipx_carrier.specs.Readiness.{AsksPortWithMark, MarksStay, Readiness}
 use Rattle.ipx_site.specs.declared.router_ports.PortIndex.{PortIndex}
 use Rattle.ipx_site.specs.declared.router_ports.PortIndex.TheVariants.{Datagrams, Ethernet, IpxnetServer}
 use Rattle.ipx_config.specs.declared.site.PortConfig.{PortConfig}
-use Rattle.ipx_config.specs.declared.site.PortConfig.TheVariants.{Rfc1234, Frames, Ipxnet}
+use Rattle.ipx_config.specs.declared.site.PortConfig.TheVariants.{Rfc1234, Ipxnet}
+use Rattle.ipx_config.specs.declared.site.PortConfig.TheVariants as configs
 use Rattle.ipx_config.specs.PortLists.{datagram_ports, datagrams_in, ethernet_ports, ethernet_ports_in, ipxnet_in, ipxnet_ports}
 use Rattle.ipx_site.specs.KindPorts.{port_index_after, port_indices_after, port_indices_of}
 use Rattle.ipx_site.specs.RouterMarks.{AreIndicesDistinct, is_same_index, mark_at_index, mark_of_kind, marked_by_kind}
@@ -148,13 +149,13 @@ no_fewer_ports earlier x (IpxnetServer k) = omega (arith, ap length (flat_map-ap
 
 own_counted : (earlier : List PortConfig) (x : PortConfig) → port_index_place (port_index_after earlier x) < counted_for (earlier ++ x ∷ []) (port_index_after earlier x)
 own_counted earlier (Rfc1234 p) = omega (arith, ap length (flat_map-append datagrams_in earlier (Rfc1234 p ∷ [])), length-append (datagram_ports earlier) (datagram_ports (Rfc1234 p ∷ [])))
-own_counted earlier (Frames p) = omega (arith, ap length (flat_map-append ethernet_ports_in earlier (Frames p ∷ [])), length-append (ethernet_ports earlier) (ethernet_ports (Frames p ∷ [])))
+own_counted earlier (configs.Ethernet p) = omega (arith, ap length (flat_map-append ethernet_ports_in earlier (Frames p ∷ [])), length-append (ethernet_ports earlier) (ethernet_ports (Frames p ∷ [])))
 own_counted earlier (Ipxnet p) = omega (arith, ap length (flat_map-append ipxnet_in earlier (Ipxnet p ∷ [])), length-append (ipxnet_ports earlier) (ipxnet_ports (Ipxnet p ∷ [])))
 
 -- the index of the next port is not one of those below
 differs : (earlier : List PortConfig) (x : PortConfig) (i : PortIndex) → port_index_place i < counted_for earlier i → is_same_index i (port_index_after earlier x) ≡ false
 differs earlier (Rfc1234 p) (Datagrams k) below = ne_eqb k (length (datagram_ports earlier)) (λ e. omega (arith, e, below))
-differs earlier (Frames p) (Ethernet k) below = ne_eqb k (length (ethernet_ports earlier)) (λ e. omega (arith, e, below))
+differs earlier (configs.Ethernet p) (Ethernet k) below = ne_eqb k (length (ethernet_ports earlier)) (λ e. omega (arith, e, below))
 differs earlier (Ipxnet p) (IpxnetServer k) below = ne_eqb k (length (ipxnet_ports earlier)) (λ e. omega (arith, e, below))
 differs earlier p i below = refl
 
@@ -168,7 +169,7 @@ none_later earlier (x ∷ ports) i below =
 -- the indices of later ports are not below
 own_place : (earlier : List PortConfig) (x : PortConfig) → counted_for earlier (port_index_after earlier x) ≤ port_index_place (port_index_after earlier x)
 own_place earlier (Rfc1234 p) = omega arith
-own_place earlier (Frames p) = omega arith
+own_place earlier (configs.Ethernet p) = omega arith
 own_place earlier (Ipxnet p) = omega arith
 
 not_below : (earlier ports : List PortConfig) (n : ℕ) (i : PortIndex) → slice_get (port_indices_after earlier ports) n ≡ Some i → counted_for earlier i ≤ port_index_place i

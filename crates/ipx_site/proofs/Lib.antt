@@ -1,5 +1,5 @@
 pub mod ControlSent
-pub mod SilentNeighbours
+pub mod StaticNeighbourLists
 pub mod PortKinds
 pub mod Ports
 pub mod Rounds

@@ -1,7 +1,7 @@
 -- When one of several things is to be done.
 use Rattle.std.proofs.Common.{◌≡◌, ◌⊎◌, ◌↔◌, ◌<◌, ◌≤◌, ◌+◌, ◌^◌, ◌∙◌, ℕ, Bool, true, Option, Some, None, inl, inr, refl, sym, subst}
 use Rattle.std.proofs.lemmas.Bool.{le-leb, leb-true}
-use Rattle.ipx_router.specs.Telling.{IsNextAdvertisement, is_due}
+use Rattle.ipx_router.specs.Advertisements.{IsNextAdvertisement, is_due}
 use Rattle.ipxnet_server.specs.Pings.{IsNextPing}
 use Rattle.ipx_sockets.specs.Moments.{IsTimeUntilDue, IsReached}
 
@@ -54,7 +54,7 @@ pinging pings (Some m) t h less = (λ k. h t less ∙ le-leb m t k, λ e. leb-tr
 -- the time with nothing to do is the same for two conditions that agree at each time that a clock can show
 pub as_long : (P Q : ℕ → Type 0) (now time : ℕ) → ((t : ℕ) → t < 2 ^ 64 → P t ↔ Q t) → IsTimeUntilDue P now time → IsTimeUntilDue Q now time
 as_long P Q now time e l = record {
-  most = l.most;
+  max_clients = l.max_clients;
   nothing = λ t a b h q. l.nothing t a b h ((e t h).1 q);
   something = λ h. let s = l.something h in (s.0, (e (now + time) s.0).0 s.1);
 }

@@ -20,7 +20,7 @@ use Rattle.ipx_router.specs.declared.port.Port.{Port}
 use Rattle.ipx_router.specs.Classify.{is_node}
 use Rattle.ipx_router.specs.Hearing.{is_heard, route_metric, service_metric}
 use Rattle.ipx_router.specs.Ports.{IsPort}
-use Rattle.ipx_router.specs.Told.{key_of_service, route_key}
+use Rattle.ipx_router.specs.AdvertisedEntries.{key_of_service, route_key}
 use Rattle.ipx_static.specs.declared.neighbour.StaticNeighbour.{StaticNeighbour}
 use Rattle.ipx_static.specs.StaticOffers.{IsAnotherNode, static_source}
 use Rattle.ipx_config.specs.declared.statics.StaticEntry.{StaticEntry}
@@ -38,11 +38,11 @@ use Rattle.ipx_config.specs.StaticLists.{AreStatics, AreEntriesOf, AreStaticEntr
 use Rattle.ipx_site.specs.StaticsHold.{FilesMeetPremises, NeighbourMayAdvertise, MayAdvertise}
 use Rattle.ipx_config.specs.StaticTables.{IsEntryTable, IsPath}
 use Rattle.ipx_config.specs.PortKinds.{network_of_kind}
-use Rattle.ipx_site.specs.StaticNeighbours.{AreSilent, IsSilent}
+use Rattle.ipx_site.specs.StaticNeighbours.{AreStaticNeighbours, IsStaticNeighbour}
 use Rattle.ipx_config.specs.SitePorts.{router_port_of_kind, router_ports}
 use Rattle.ipx_config.specs.Values.{IsCount}
 use Rattle.ipx_site.proofs.Among.{each_fails, later, made_of, makes, none_among, of_left, of_right, one_or_later, or_parts}
-use Rattle.ipx_site.proofs.SilentNeighbours.{neighbours_have, sources_have}
+use Rattle.ipx_site.proofs.StaticNeighbourLists.{neighbours_have, sources_have}
 
 -- ---- the neighbour: another node, on the network of a port that exists
 
@@ -310,19 +310,19 @@ finds_when b o x passes is = rw (passes, is) refl
 
 -- what a neighbour advertises is the item of an entry with this source
 of_entry : {E : Type 0} (in_word : StaticItem → Option E) (word_of : E → StaticItem) (said_by : StaticNeighbour → List E) (reads : (w : StaticItem) (x : E) → in_word w ≡ Some x → w ≡ word_of x)
-    (es : List StaticEntry) (ns : List StaticNeighbour) → AreSilent es ns → ((s : Source) (n : StaticNeighbour) → IsSilent es s n → said_by n ≡ filter_map (Finds in_word s) es)
+    (es : List StaticEntry) (ns : List StaticNeighbour) → AreStaticNeighbours es ns → ((s : Source) (n : StaticNeighbour) → IsStaticNeighbour es s n → said_by n ≡ filter_map (Finds in_word s) es)
     → (m : StaticNeighbour) → Contains ns m → (y : E) → Contains (said_by m) y → (g : StaticEntry) × Contains es g × (g.by ≡ static_source m) × (g.word ≡ word_of y)
 of_entry {E} in_word word_of said_by reads es ns silent said m among y there =
-    let (s, is) = of_right (IsSilent es) (named_sources [] es) ns silent m among in
+    let (s, is) = of_right (IsStaticNeighbour es) (named_sources [] es) ns silent m among in
     let (f, inside, found) = made_of (Finds in_word s) es y (subst (λ (l : List E). Contains l y) (said s m is) there) in
     let (from, reading) = found_in in_word s f y found in
     (f, inside, from ∙ sym is.source, reads f.word y reading)
 
-pub route_entry : (es : List StaticEntry) (ns : List StaticNeighbour) → AreSilent es ns → (m : StaticNeighbour) → Contains ns m → (y : RipEntry) → Contains m.routes.items y
+pub route_entry : (es : List StaticEntry) (ns : List StaticNeighbour) → AreStaticNeighbours es ns → (m : StaticNeighbour) → Contains ns m → (y : RipEntry) → Contains m.routes.items y
     → (g : StaticEntry) × Contains es g × (g.by ≡ static_source m) × (g.word ≡ Says.Route y)
 route_entry es ns silent = of_entry route_of_item (λ (x : RipEntry). Says.Route x) (λ (m : StaticNeighbour). m.routes.items) is_route es ns silent (λ s m of. of.routes)
 
-pub service_entry : (es : List StaticEntry) (ns : List StaticNeighbour) → AreSilent es ns → (m : StaticNeighbour) → Contains ns m → (y : ServiceEntry) → Contains m.services.items y
+pub service_entry : (es : List StaticEntry) (ns : List StaticNeighbour) → AreStaticNeighbours es ns → (m : StaticNeighbour) → Contains ns m → (y : ServiceEntry) → Contains m.services.items y
     → (g : StaticEntry) × Contains es g × (g.by ≡ static_source m) × (g.word ≡ Says.Service y)
 service_entry es ns silent = of_entry service_of_item (λ (x : ServiceEntry). Says.Service x) (λ (m : StaticNeighbour). m.services.items) is_service es ns silent (λ s m of. of.services)
 
@@ -330,10 +330,10 @@ module _ {E K M : Type 0} (in_word : StaticItem → Option E) (word_of : E → S
     (reads : (w : StaticItem) (x : E) → in_word w ≡ Some x → w ≡ word_of x) (in_own : (x : E) → in_word (word_of x) ≡ Some x)
     (alike : (x y : E) → key_of x ≡ key_of y → SayTheSame (word_of x) (word_of y))
     (es : List StaticEntry) (same : (x y : StaticEntry) → Contains es x → Contains es y → AreAlike x y → x ≡ y)
-    (ns : List StaticNeighbour) (silent : AreSilent es ns)
-    (said : (s : Source) (n : StaticNeighbour) → IsSilent es s n → said_by n ≡ filter_map (Finds in_word s) es) where
+    (ns : List StaticNeighbour) (silent : AreStaticNeighbours es ns)
+    (said : (s : Source) (n : StaticNeighbour) → IsStaticNeighbour es s n → said_by n ≡ filter_map (Finds in_word s) es) where
   -- the item of an entry is among those that its neighbour advertises
-  says_it : (s : Source) (n : StaticNeighbour) → IsSilent es s n → (e : StaticEntry) → Contains es e → e.by ≡ s → (x : E) → e.word ≡ word_of x → Contains (said_by n) x
+  says_it : (s : Source) (n : StaticNeighbour) → IsStaticNeighbour es s n → (e : StaticEntry) → Contains es e → e.by ≡ s → (x : E) → e.word ≡ word_of x → Contains (said_by n) x
   says_it s n is e at by x word =
       let found : Finds in_word s e ≡ Some x = finds_when (is_one_source e.by s) (in_word e.word) x (source_is e.by s by) (ap in_word word ∙ in_own x) in
       subst (λ (l : List E). Contains l x) (sym (said s n is)) (makes (Finds in_word s) es e x at found)
@@ -342,7 +342,7 @@ module _ {E K M : Type 0} (in_word : StaticItem → Option E) (word_of : E → S
   says_no_other : (e : StaticEntry) → Contains es e → (x : E) → e.word ≡ word_of x → (m : StaticNeighbour) → Contains ns m → static_source m ≡ e.by
       → (y : E) → Contains (said_by m) y → key_of y ≡ key_of x → metric_of y ≡ metric_of x
   says_no_other e at x word m among by y there key =
-      let (s, is) = of_right (IsSilent es) (named_sources [] es) ns silent m among in
+      let (s, is) = of_right (IsStaticNeighbour es) (named_sources [] es) ns silent m among in
       let (f, inside, found) = made_of (Finds in_word s) es y (subst (λ (l : List E). Contains l y) (said s m is) there) in
       let (from, reading) = found_in in_word s f y found in
       let says = reads f.word y reading in
@@ -353,8 +353,8 @@ module _ {E K M : Type 0} (in_word : StaticItem → Option E) (word_of : E → S
       let equal : Some y ≡ Some x = sym reading ∙ ap (λ (z : StaticEntry). in_word z.word) one ∙ ap in_word word ∙ in_own x in
       ap metric_of (same_Some y x equal)
 
-module _ (ports : List PortConfig) (ms : Members) (es : List StaticEntry) (h : AreStatics ports ms es) (ns : List StaticNeighbour) (silent : AreSilent es ns) where
-  word_holds : (e : StaticEntry) → Contains es e → (n : StaticNeighbour) → IsSilent es e.by n → (w : StaticItem) → e.word ≡ w → IsAdvertised (router_ports ports) w
+module _ (ports : List PortConfig) (ms : Members) (es : List StaticEntry) (h : AreStatics ports ms es) (ns : List StaticNeighbour) (silent : AreStaticNeighbours es ns) where
+  word_holds : (e : StaticEntry) → Contains es e → (n : StaticNeighbour) → IsStaticNeighbour es e.by n → (w : StaticItem) → e.word ≡ w → IsAdvertised (router_ports ports) w
       → MayAdvertise (router_ports ports) ns n w
   word_holds e at n is (Says.Route r) word told = (
     says_it route_of_item (λ (x : RipEntry). Says.Route x) route_key route_metric (λ (m : StaticNeighbour). m.routes.items) is_route (λ x. refl) (λ x y key. key)
@@ -374,7 +374,7 @@ module _ (ports : List PortConfig) (ms : Members) (es : List StaticEntry) (h : A
 
   entry_holds : (e : StaticEntry) → Contains es e → NeighbourMayAdvertise (router_ports ports) ns e
   entry_holds e at =
-      let (n, among, is) = of_left (IsSilent es) (named_sources [] es) ns silent e.by (named_has [] es e at) in
+      let (n, among, is) = of_left (IsStaticNeighbour es) (named_sources [] es) ns silent e.by (named_has [] es e at) in
       (n, among, is.source, word_holds e at n is e.word refl (right ports ms es h e at).1)
 
   all_elsewhere : All (IsAnotherNode (router_ports ports)) ns

@@ -8,14 +8,14 @@ use Rattle.ipx_tables.specs.declared.source.Source.{Source}
 use Rattle.ipx_router.specs.declared.port.Port.{Port}
 use Rattle.ipx_router.specs.Hearing.{is_heard, route_metric, service_metric}
 use Rattle.ipx_router.specs.Knowledge.{routes_in, services_in}
-use Rattle.ipx_router.specs.Telling.{is_due}
-use Rattle.ipx_router.specs.Told.{key_of_service}
+use Rattle.ipx_router.specs.Advertisements.{is_due}
+use Rattle.ipx_router.specs.AdvertisedEntries.{key_of_service}
 use Rattle.ipx_carrier.specs.PriorityRouterCore.{PriorityCoreView}
 use Rattle.ipx_static.specs.declared.neighbour.StaticNeighbour.{StaticNeighbour}
 use Rattle.ipx_static.specs.WithStatics.{WithStaticsView}
 use Rattle.ipx_static.specs.StaticOffers.{Counts, IsAnotherNode}
 use Rattle.ipx_static.specs.StaticRuns.{Asked, AsksOnceMore, Comes, ComesAs, DependsOn, IsAskedEachMinute, OffersItself, StaticCall, StaticCallAt, StaticRoutesHold, RunsWithStatics, StaticServicesHold, TellsItself, asked_by}
-use Rattle.ipx_static.specs.StaticAdvertisements.{AreWordsOf}
+use Rattle.ipx_static.specs.StaticAdvertisements.{AreStaticAdvertisements}
 use Rattle.ipx_config.specs.declared.statics.StaticEntry.{StaticEntry}
 use Rattle.ipx_config.specs.declared.statics.StaticItem.{StaticItem}
 use Rattle.ipx_config.specs.declared.statics.StaticItem.TheVariants.{Route, Service}
@@ -26,7 +26,7 @@ use Rattle.ipx_site.proofs.StandingEntries.{files_stand, route_entry, service_en
 
 -- it is such a run of the silent neighbours
 run_of : (s : RouterConfig) (start : ℕ) (calls : List StaticCallAt) (old new : WithStaticsView PriorityCoreView) → RunsByFile s start calls old new
-    → (ns : List StaticNeighbour) → AreWordsOf ns old.advertisements → is_due old.said start ≡ true
+    → (ns : List StaticNeighbour) → AreStaticAdvertisements ns old.advertisements → is_due old.refreshed_at start ≡ true
     → All (IsAnotherNode (router_ports s.ports.items)) ns → RunsWithStatics ns start calls old new
 run_of s start calls old new run ns words due others = record {
   advertisements = words;

@@ -4,7 +4,7 @@ use Rattle.std.proofs.Common.{◌≡◌, ◌≤◌, ◌+◌, ◌⊎◌, ◌∙�
 use Rattle.ipx_metrics.specs.MeteredRouter.{CountedView, CountsHeard}
 use Rattle.ipx_static.specs.WithStatics.{HearsUnder, WithStaticsView}
 use Rattle.ipx_static.specs.StaticRuns.{Asked, AsksOnceMore, Comes, DoStaticCalls, DoesStaticCall, IsAskedEachMinute, OffersItself, StaticCall, StaticCallAt, StaticsAreCountedSeparately, TellsItself, asked_by, asked_in, uncounted}
-use Rattle.ipx_router.specs.Told.{key_of_service}
+use Rattle.ipx_router.specs.AdvertisedEntries.{key_of_service}
 use Rattle.ipx_config.specs.declared.site.RouterConfig.{RouterConfig}
 use Rattle.ipx_site.specs.StaticsHold.{DependsOnRoute, DependsOnService, DoSiteCalls, DoesSiteCall, RoutesOfFilesHold, RoutesOfSitesHold, RunsAsSite, RunsByFile, ServicesOfFilesHold, ServicesOfSitesHold}
 use Rattle.ipx_rate_limits.specs.RateLimiter.{HearsRateLimited, RateLimiterView}

@@ -10,19 +10,19 @@ use Rattle.ipx_source_checks.specs.declared.drops.SourceDrops.{SourceDrops}
 use Rattle.ipx_site.specs.declared.drop_log.DropLog.{DropLog}
 use Rattle.ipx_site.specs.declared.drop_log.DropReason.{DropReason}
 use Rattle.ipx_site.specs.declared.drop_log.DropReason.TheVariants.{Bad, NotOurs, NoRoute, HopLimit, BadControl, ForwardedControl, GroupSource, LoopedSource}
-use Rattle.ipx_sockets.specs.Moments.{IsLoggedIfDue, untold}
+use Rattle.ipx_sockets.specs.Moments.{IsLoggedIfDue, never_logged}
 
 -- nothing has been logged
 abbrev pub no_drops_logged : DropLog
 no_drops_logged = record {
-  bad = untold;
-  not_ours = untold;
-  no_route = untold;
-  hop_limit = untold;
-  bad_control = untold;
-  forwarded_control = untold;
-  group_source = untold;
-  looped_source = untold;
+  bad = never_logged;
+  not_ours = never_logged;
+  no_route = never_logged;
+  hop_limit = never_logged;
+  bad_control = never_logged;
+  forwarded_control = never_logged;
+  group_source = never_logged;
+  looped_source = never_logged;
 }
 
 -- the drops of each of eight reasons are logged exactly if they are due

@@ -1,6 +1,6 @@
 -- What a running router does by itself, and how long it has nothing to do. Defined by this project.
 use Rattle.std.specs.Prelude.{◌≡◌, ◌≤◌, ◌<◌, ◌⊎◌, ◌==◌, ℕ, ◌+◌, List, [], ◌∷◌, length, true, Option, if◌then◌else◌, Some, slice_get}
-use Rattle.ipx_router.specs.Telling.{is_due}
+use Rattle.ipx_router.specs.Advertisements.{is_due}
 use Rattle.ipx_site.specs.declared.metrics.Metrics.{Metrics}
 use Rattle.ipx_site.specs.declared.router_counts.RouterCounts.{RouterCounts}
 use Rattle.ipx_carrier.specs.declared.datagrams.Datagrams as OfDevice
@@ -156,8 +156,8 @@ IsToSend q = 0 < length q.forwarded + length q.own
 abbrev pub IsDue : Deadlines → ℕ → Type 0
 IsDue a now = IsToSend a.core.core.core.core.queues
     ⊎ IsToAskAgain a.asked now
-    ⊎ (is_due a.core.core.core.core.router.told now ≡ true)
-    ⊎ (is_due a.core.core.core.said now ≡ true)
+    ⊎ (is_due a.core.core.core.core.router.advertised_at now ≡ true)
+    ⊎ (is_due a.core.core.core.refreshed_at now ≡ true)
     ⊎ (is_any_pinged a.servers now ≡ true)
     ⊎ HasPassed (look_after a.core.core.core.core.outcomes.heard a.responses) a.looked now
     ⊎ HasPassed 10000 a.written now

@@ -52,7 +52,7 @@ abbrev pub ethernet_port_of : EthernetPortConfig → EthernetPort
 ethernet_port_of p = record { own = p.node; network = p.network; encapsulation = p.encapsulation }
 
 abbrev pub switch_of : EthernetPortConfig → SwitchView
-switch_of p = new_switch (ethernet_port_of p) p.joined
+switch_of p = new_switch (ethernet_port_of p) p.switched
 
 -- the server port of a file's ipxnet port, and its server before any client registered
 abbrev pub client_port_of : Secret → IpxnetPortConfig → ServerPort

@@ -7,11 +7,11 @@ use Rattle.ipx_table_dump.specs.TableText.{seconds_since}
 use Rattle.ipx_table_dump.specs.declared.advertisers.Advertiser.{Advertiser}
 use Rattle.ipx_tables.specs.declared.source.Source.{Source}
 use Rattle.ipx_site.specs.MetricsText.{MetricFamily, Sample, gauge}
-use Rattle.ipx_site.specs.declared.neighbour_metrics.Told.{Told}
-use Rattle.ipx_site.specs.declared.neighbour_metrics.Told.TheVariants.{Networks, Services, Heard}
+use Rattle.ipx_site.specs.declared.neighbour_metrics.NeighbourMetric.{NeighbourMetric}
+use Rattle.ipx_site.specs.declared.neighbour_metrics.NeighbourMetric.TheVariants.{Networks, Services, Heard}
 
 -- how much a neighbour advertises, and how long ago it was heard
-abbrev pub figure_of : Told → Advertiser → ℕ
+abbrev pub figure_of : NeighbourMetric → Advertiser → ℕ
 figure_of Networks a = a.networks
 figure_of Services a = a.services
 figure_of (Heard now) a = seconds_since now a.heard
@@ -21,8 +21,8 @@ abbrev pub neighbour_sample : Source → ℕ → Sample
 neighbour_sample source figure =
     ((codes "port", decimal source.port) ∷ (codes "node", encode_lower source.neighbour.0) ∷ [], figure)
 
-abbrev pub neighbour_samples : Told → List (Source × Advertiser) → List Sample
-neighbour_samples told neighbours = map (λ n. neighbour_sample n.0 (figure_of told n.1)) neighbours
+abbrev pub neighbour_samples : NeighbourMetric → List (Source × Advertiser) → List Sample
+neighbour_samples metric neighbours = map (λ n. neighbour_sample n.0 (figure_of metric n.1)) neighbours
 
 abbrev pub neighbour_families : ℕ → List (Source × Advertiser) → List MetricFamily
 neighbour_families now neighbours =

@@ -9,11 +9,11 @@ use Rattle.ipx_router.specs.declared.port.Port.{Port}
 use Rattle.ipx_table_dump.specs.TableText.{network_word}
 use Rattle.ipx_site.specs.MetricsText.{MetricFamily, Sample, at_port_by, counter}
 use Rattle.ipx_site.specs.TotalFamilies.{dropped_outcomes}
-use Rattle.ipx_site.specs.declared.port_metrics.Passed.{Passed}
-use Rattle.ipx_site.specs.declared.port_metrics.Passed.TheVariants.{Heard, HeardBytes, Sent, SentBytes}
+use Rattle.ipx_site.specs.declared.port_metrics.Traffic.{Traffic}
+use Rattle.ipx_site.specs.declared.port_metrics.Traffic.TheVariants.{Heard, HeardBytes, Sent, SentBytes}
 
 -- what is counted of the traffic at a port
-abbrev pub count_of : Passed → PortCounts → ℕ
+abbrev pub count_of : Traffic → PortCounts → ℕ
 count_of Heard c = counted (outcomes_in c.outcomes)
 count_of HeardBytes c = c.heard_bytes
 count_of Sent c = c.sent
@@ -25,7 +25,7 @@ port_sample number port count =
     ((codes "port", decimal number) ∷ (codes "network", network_word port.network) ∷ [], count)
 
 -- a count of each port, in order. The first port has the number 1
-abbrev pub port_samples : Passed → List Port → List PortCounts → List Sample
+abbrev pub port_samples : Traffic → List Port → List PortCounts → List Sample
 port_samples passed ports counters =
     map (λ p. port_sample p.0 p.1.0 (count_of passed p.1.1)) (enumerate_from 1 (zip ports counters))
 

@@ -30,7 +30,7 @@ use Rattle.ipx_config.specs.declared.site.RouterConfig.{RouterConfig}
 
 -- a router knows no route and no service of others, and has advertised nothing
 abbrev pub KnowsNothing : RouterView → Type 0
-KnowsNothing r = (r.routes.offers ≡ []) × (r.services.offers ≡ []) × (r.told ≡ None)
+KnowsNothing r = (r.routes.offers ≡ []) × (r.services.offers ≡ []) × (r.advertised_at ≡ None)
 
 -- a router has started as its file says. It has the ports of the file, each with its socket and an index of
 -- its own, and all ipxnet ports with one secret and notes of some clients. It knows nothing of other routers, and is to hear its static entries. It checks sources at its ports, and has dropped nothing. The limits at its ports are

@@ -8,7 +8,7 @@ use Rattle.ipx_control.specs.declared.sap.packet.ServiceEntry.{ServiceEntry}
 use Rattle.ipx_router.specs.declared.port.Port.{Port}
 use Rattle.ipx_router.specs.Hearing.{is_heard, route_metric, service_metric}
 use Rattle.ipx_router.specs.Knowledge.{routes_in, services_in}
-use Rattle.ipx_router.specs.Told.{key_of_service, route_key}
+use Rattle.ipx_router.specs.AdvertisedEntries.{key_of_service, route_key}
 use Rattle.ipx_carrier.specs.PriorityRouterCore.{PriorityCoreView}
 use Rattle.ipx_carrier.specs.Turns.{Given}
 use Rattle.ipx_static.specs.declared.neighbour.StaticNeighbour.{StaticNeighbour}
@@ -19,7 +19,7 @@ use Rattle.ipx_config.specs.declared.statics.StaticEntry.{StaticEntry}
 use Rattle.ipx_config.specs.declared.statics.StaticItem.{StaticItem}
 use Rattle.ipx_config.specs.declared.statics.StaticItem.TheVariants.{Route, Service}
 use Rattle.ipx_config.specs.declared.site.RouterConfig.{RouterConfig}
-use Rattle.ipx_site.specs.StaticNeighbours.{AreSilent, IsToHear}
+use Rattle.ipx_site.specs.StaticNeighbours.{AreStaticNeighbours, IsToHear}
 use Rattle.ipx_config.specs.Site.{IsSiteText}
 use Rattle.ipx_site.specs.SiteCore.{SiteAsksAgain, SiteCore, SiteGives, SiteHears}
 use Rattle.ipx_config.specs.SitePorts.{router_ports}
@@ -41,7 +41,7 @@ NeighbourMayAdvertise ports ns h = (n : StaticNeighbour) × Contains ns n × (st
 -- no neighbour of a file is the router itself, and each entry is to be kept
 abbrev pub FilesMeetPremises : Type 0
 FilesMeetPremises = (text : List ℕ) (s : RouterConfig) → IsSiteText text s
-    → (ns : List StaticNeighbour) → AreSilent s.statics.items ns
+    → (ns : List StaticNeighbour) → AreStaticNeighbours s.statics.items ns
     → All (IsAnotherNode (router_ports s.ports.items)) ns
     × All (NeighbourMayAdvertise (router_ports s.ports.items) ns) s.statics.items
 

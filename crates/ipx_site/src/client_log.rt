@@ -44,7 +44,7 @@ pub struct ClientChanges {
 /// logged that register again and again.
 #[derive(Drop)]
 pub struct ClientLog {
-    told: Vec<PortClient>,
+    logged: Vec<PortClient>,
     looked: Option<u64>,
     repeats: RepeatLog,
 }
@@ -101,18 +101,18 @@ fn without(
         .collect(alloc)
 }
 
-/// The changes to log if `told` were logged as connected and `there` are connected: at most ten.
-fn news_of(
+/// The changes to log if `logged` were logged as connected and `there` are connected: at most ten.
+fn changes_of(
     alloc: Global,
-    told: &[PortClient],
+    logged: &[PortClient],
     there: &[PortClient],
 ) -> Result<ClientChanges, AllocError>
-    ensures gone { IfOk result (λ n. n.gone.items ≡ clients_gone told.now there.now) }
-    ensures came { IfOk result (λ n. n.came.items ≡ clients_come told.now there.now) }
+    ensures gone { IfOk result (λ n. n.gone.items ≡ clients_gone logged.now there.now) }
+    ensures came { IfOk result (λ n. n.came.items ≡ clients_come logged.now there.now) }
 {
-    let mut gone = without(alloc, told, there)?;
+    let mut gone = without(alloc, logged, there)?;
     gone.truncate(MAX_LINES);
-    let mut came = without(alloc, there, told)?;
+    let mut came = without(alloc, there, logged)?;
     came.truncate(MAX_LINES.saturating_sub(gone.len()));
     Ok(ClientChanges { gone, came })
 }
@@ -120,14 +120,14 @@ fn news_of(
 /// The clients that are logged as connected after these changes.
 fn logged_after(
     alloc: Global,
-    told: &[PortClient],
-    news: &ClientChanges,
+    logged: &[PortClient],
+    changes: &ClientChanges,
 ) -> Result<Vec<PortClient>, AllocError>
     ensures { IfOk result (λ v.
-        v.items ≡ clients_without told.now news.now.gone.items ++ news.now.came.items) }
+        v.items ≡ clients_without logged.now changes.now.gone.items ++ changes.now.came.items) }
 {
-    let mut all = without(alloc, told, &news.gone)?;
-    all.extend_from_slice(&news.came)?;
+    let mut all = without(alloc, logged, &changes.gone)?;
+    all.extend_from_slice(&changes.came)?;
     Ok(all)
 }
 
@@ -226,11 +226,11 @@ impl ClientChanges {
 impl ClientLog {
     /// No client has been logged yet.
     pub fn new(alloc: Global) -> ClientLog
-        ensures nobody { result.told.items ≡ [] }
+        ensures nobody { result.logged.items ≡ [] }
         ensures never { result.looked ≡ None }
     {
         ClientLog {
-            told: Vec::new(alloc),
+            logged: Vec::new(alloc),
             looked: None,
             repeats: RepeatLog::new(),
         }
@@ -240,19 +240,19 @@ impl ClientLog {
     /// is gone, or is connected but was not logged, appears once. At most ten appear. The rest wait
     /// for the next look; if out of memory, all do.
     pub fn look(&mut self, alloc: Global, there: &[PortClient]) -> Result<ClientChanges, AllocError>
-        ensures gone { IfOk result (λ n. n.gone.items ≡ clients_gone self.old.told.items there.now) }
-        ensures came { IfOk result (λ n. n.came.items ≡ clients_come self.old.told.items there.now) }
-        ensures told { OnOk result (self.new.told.items
-            ≡ clients_logged self.old.told.items there.now) }
+        ensures gone { IfOk result (λ n. n.gone.items ≡ clients_gone self.old.logged.items there.now) }
+        ensures came { IfOk result (λ n. n.came.items ≡ clients_come self.old.logged.items there.now) }
+        ensures logged { OnOk result (self.new.logged.items
+            ≡ clients_logged self.old.logged.items there.now) }
         ensures few { IfOk result (λ n.
             length n.gone.items + length n.came.items ≤ max_client_lines) }
         ensures looked { self.new.looked ≡ self.old.looked }
         ensures repeats { self.new.repeats ≡ self.old.repeats }
         ensures refused { OnErr result (self.new ≡ self.old) }
     {
-        let news = news_of(alloc, &self.told, there)?;
-        self.told = logged_after(alloc, &self.told, &news)?;
-        Ok(news)
+        let changes = changes_of(alloc, &self.logged, there)?;
+        self.logged = logged_after(alloc, &self.logged, &changes)?;
+        Ok(changes)
     }
 
     /// Looks at the clients of a router's ports at `now`, in milliseconds, and logs those that
@@ -268,10 +268,10 @@ impl ClientLog {
     ) -> Result<(), AllocError>
         ensures early { (HasPassed 1000 self.old.looked now → ⊥) → self.new ≡ self.old }
         ensures looked { HasPassed 1000 self.old.looked now → self.new.looked ≡ Some now }
-        ensures told { HasPassed 1000 self.old.looked now → OnOk result (self.new.told.items
-            ≡ clients_logged self.old.told.items
+        ensures logged { HasPassed 1000 self.old.looked now → OnOk result (self.new.logged.items
+            ≡ clients_logged self.old.logged.items
             (all_clients 1 ports.now.port_indices.items ports.now.servers.servers.items)) }
-        ensures refused { OnErr result (self.new.told ≡ self.old.told) }
+        ensures refused { OnErr result (self.new.logged ≡ self.old.logged) }
         ensures repeats { HasPassed 1000 self.old.looked now → AreLoggedIfDue
             (repeats_of_ports ports.now.servers.servers.items ports.now.port_indices.items) now
             self.old.repeats.ports self.new.repeats.ports }
@@ -282,8 +282,8 @@ impl ClientLog {
         self.looked = Some(now);
         self.repeats.tell(rt, ports, now);
         let there = clients_in(alloc, ports)?;
-        let news = self.look(alloc, &there)?;
-        news.tell(rt);
+        let changes = self.look(alloc, &there)?;
+        changes.tell(rt);
         Ok(())
     }
 }

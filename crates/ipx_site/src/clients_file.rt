@@ -7,7 +7,7 @@ ghost use Rattle.ipx_site.specs.Secrets.{kept_text};
 ghost use Rattle.ipx_table_dump.specs.ClientsText.{max_client_places};
 
 use crate::router_ports::UdpRouterPorts;
-use crate::secret_file::{KeptClients, secret_to_text, write_private};
+use crate::secret_file::{SavedClients, secret_to_text, write_private};
 use ipx_sockets::is_over;
 use ipx_table_dump::{ClientPlace, MAX_CLIENT_PLACES};
 use ipx_wire::Network;
@@ -135,7 +135,7 @@ fn are_same(one: &[ClientPlace], other: &[ClientPlace]) -> bool {
 
 impl ClientsFile {
     /// The file of this path, which lists these clients.
-    pub fn new(path: Option<String>, kept: KeptClients) -> ClientsFile {
+    pub fn new(path: Option<String>, kept: SavedClients) -> ClientsFile {
         let written = if kept.clients.is_empty() {
             None
         } else {
@@ -157,8 +157,12 @@ impl ClientsFile {
 
     /// What the file is to hold, if the clients of these servers are others than it lists: this
     /// router's secret, and those that were heard last.
-    fn news(&self, alloc: Global, servers: &[IpxnetServer]) -> Result<Option<NewList>, AllocError>
-        ensures { IfOk result (λ news. IfSome news (λ n. AreHeardLast servers.now n.clients.items
+    fn new_list(
+        &self,
+        alloc: Global,
+        servers: &[IpxnetServer],
+    ) -> Result<Option<NewList>, AllocError>
+        ensures { IfOk result (λ list. IfSome list (λ n. AreHeardLast servers.now n.clients.items
             × (string_bytes n.text ≡ kept_text self.now.secret n.clients.items))) }
     {
         let clients = last_heard(alloc, servers)?;
@@ -182,22 +186,22 @@ impl ClientsFile {
             return Ok(());
         }
         self.looked = Some(now);
-        let Ok(news) = self.news(alloc, ports.servers().servers()) else {
+        let Ok(list) = self.new_list(alloc, ports.servers().servers()) else {
             return Err(ClientsFileFault::OutOfMemory);
         };
-        let Some(news) = news else {
+        let Some(list) = list else {
             return Ok(());
         };
         self.written = Some(now);
         let Some(path) = &self.path else {
             return Ok(());
         };
-        match write_private(rt, alloc, path, news.text.as_str()) {
+        match write_private(rt, alloc, path, list.text.as_str()) {
             Ok(Ok(())) => {}
             Ok(Err(_)) => return Err(ClientsFileFault::File),
             Err(_) => return Err(ClientsFileFault::OutOfMemory),
         }
-        self.listed = news.clients;
+        self.listed = list.clients;
         Ok(())
     }
 }

@@ -32,8 +32,8 @@ fn switches_of(alloc: Global, ports: &[PortConfig]) -> Result<Vec<Switch>, Alloc
 {
     let mut switches = Vec::new(alloc);
     for port in ports {
-        if let PortConfig::Frames(port) = port {
-            let switch = Switch::new(alloc, ethernet_port(port), port.joined)?;
+        if let PortConfig::Ethernet(port) = port {
+            let switch = Switch::new(alloc, ethernet_port(port), port.switched)?;
             switches.push(switch)?;
         }
     }
@@ -85,7 +85,7 @@ fn bind_ethernet_ports<R: Net>(
 {
     let mut sockets = EthernetSockets::new(alloc);
     for (place, port) in ports.iter().enumerate() {
-        if let PortConfig::Frames(port) = port {
+        if let PortConfig::Ethernet(port) = port {
             bind_ethernet_port(rt, alloc, &mut sockets, place + 1, port)?;
         }
     }

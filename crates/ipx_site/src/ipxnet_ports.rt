@@ -11,7 +11,7 @@ ghost use Rattle.ipx_config.specs.PortLists.{ipxnet_places, ipxnet_ports};
 ghost use Rattle.ipx_carrier.specs.Traces.{v4_at};
 
 use crate::registering::registering;
-use crate::secret_file::KeptClients;
+use crate::secret_file::SavedClients;
 use ipx_carrier::socket_addr;
 use ipx_config::{IpxnetPortConfig, PortConfig};
 use ipx_ipxnet_ports::{ServerSockets, Servers};
@@ -56,7 +56,7 @@ fn note_known(server: &mut IpxnetServer, network: Network, known: &[ClientPlace]
 /// The server of a port, before any client has registered. It has noted the clients of before.
 fn server_of(
     alloc: Global,
-    kept: &KeptClients,
+    kept: &SavedClients,
     port: &IpxnetPortConfig,
 ) -> Result<IpxnetServer, AllocError>
     ensures { IfOk result (λ l. l ≡ server_of_port kept.now.secret kept.now.clients.items port.now) }
@@ -72,7 +72,7 @@ fn server_of(
 /// The server of each ipxnet port.
 fn servers_of_ports(
     alloc: Global,
-    kept: &KeptClients,
+    kept: &SavedClients,
     ports: &[PortConfig],
 ) -> Result<Vec<IpxnetServer>, AllocError>
     ensures { IfOk result (λ v. v.items
@@ -146,7 +146,7 @@ fn bind_servers<R: Net + Log>(
 pub fn servers_of<R: Net + Log>(
     rt: &R,
     alloc: Global,
-    kept: &KeptClients,
+    kept: &SavedClients,
     ports: &[PortConfig],
 ) -> Result<Servers<ServerSockets>, BindFault>
     ensures servers { IfOk result (λ l. l.servers.items

@@ -60,4 +60,4 @@ pub use static_laws::{
     entries_of_files_meet_premises, routes_of_files_hold, routes_of_sites_hold,
     services_of_files_hold, services_of_sites_hold,
 };
-pub use static_neighbours::silent_of;
+pub use static_neighbours::static_neighbours_of;

@@ -33,20 +33,20 @@ const HEARD: Family = Family {
 
 /// What is written of a neighbour.
 #[derive(Clone, Copy, PartialEq, Eq)]
-pub enum Told {
+pub enum NeighbourMetric {
     Networks,
     Services,
     /// How long ago it was heard last, at this time in milliseconds.
     Heard(u64),
 }
 
-fn metric_of_neighbour(teller: &Advertiser, told: Told) -> u64
-    ensures { result ≡ figure_of told teller.now }
+fn metric_of_neighbour(teller: &Advertiser, metric: NeighbourMetric) -> u64
+    ensures { result ≡ figure_of metric teller.now }
 {
-    match told {
-        Told::Networks => teller.networks as u64,
-        Told::Services => teller.services as u64,
-        Told::Heard(now) => now.saturating_sub(teller.heard) / 1000,
+    match metric {
+        NeighbourMetric::Networks => teller.networks as u64,
+        NeighbourMetric::Services => teller.services as u64,
+        NeighbourMetric::Heard(now) => now.saturating_sub(teller.heard) / 1000,
     }
 }
 
@@ -73,19 +73,19 @@ fn put_neighbour_metric(
     alloc: Global,
     family: &Family,
     advertisers: &[(Source, Advertiser)],
-    told: Told,
+    metric: NeighbourMetric,
 ) -> Result<(), AllocError>
     ensures { OnOk result (string_bytes text.new ≡ string_bytes text.old
         ++ family_lines (record {
           name = family.now.name.now;
           help = family.now.help.now;
           kind = family.now.kind.now;
-          samples = neighbour_samples told advertisers.now;
+          samples = neighbour_samples metric advertisers.now;
         })) }
 {
     put_family(text, family)?;
     for (source, teller) in advertisers {
-        let figure = metric_of_neighbour(teller, told);
+        let figure = metric_of_neighbour(teller, metric);
         put_figure(text, alloc, family, source, figure)?;
     }
     Ok(())
@@ -101,9 +101,27 @@ fn put_neighbours(
     ensures { OnOk result (string_bytes text.new
         ≡ string_bytes text.old ++ families_text (neighbour_families now advertisers.now)) }
 {
-    put_neighbour_metric(text, alloc, &NETWORKS, advertisers, Told::Networks)?;
-    put_neighbour_metric(text, alloc, &SERVICES, advertisers, Told::Services)?;
-    put_neighbour_metric(text, alloc, &HEARD, advertisers, Told::Heard(now))
+    put_neighbour_metric(
+        text,
+        alloc,
+        &NETWORKS,
+        advertisers,
+        NeighbourMetric::Networks,
+    )?;
+    put_neighbour_metric(
+        text,
+        alloc,
+        &SERVICES,
+        advertisers,
+        NeighbourMetric::Services,
+    )?;
+    put_neighbour_metric(
+        text,
+        alloc,
+        &HEARD,
+        advertisers,
+        NeighbourMetric::Heard(now),
+    )
 }
 
 /// Writes how much each neighbour advertises that counts at `now`, for the first 256 neighbours by

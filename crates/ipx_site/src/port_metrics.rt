@@ -45,21 +45,21 @@ const DROPPED: Family = Family {
 
 /// What is counted of the traffic at a port.
 #[derive(Clone, Copy)]
-pub enum Passed {
+pub enum Traffic {
     Heard,
     HeardBytes,
     Sent,
     SentBytes,
 }
 
-fn count_of(counts: &PortCounts, passed: Passed) -> u64
+fn count_of(counts: &PortCounts, passed: Traffic) -> u64
     ensures { result ≡ count_of passed counts.now }
 {
     match passed {
-        Passed::Heard => counts.heard(),
-        Passed::HeardBytes => counts.heard_bytes,
-        Passed::Sent => counts.sent,
-        Passed::SentBytes => counts.sent_bytes,
+        Traffic::Heard => counts.heard(),
+        Traffic::HeardBytes => counts.heard_bytes,
+        Traffic::Sent => counts.sent,
+        Traffic::SentBytes => counts.sent_bytes,
     }
 }
 
@@ -84,13 +84,13 @@ fn put_count(
 }
 
 /// Writes a metric of each port, with its number and its network.
-fn put_passed(
+fn put_traffic(
     text: &mut String,
     alloc: Global,
     family: &Family,
     ports: &[Port],
     counters: &[PortCounts],
-    passed: Passed,
+    passed: Traffic,
 ) -> Result<(), AllocError>
     ensures { OnOk result (string_bytes text.new ≡ string_bytes text.old
         ++ family_lines (record {
@@ -151,16 +151,23 @@ pub fn put_port_metrics(
     ensures { OnOk result (string_bytes text.new
         ≡ string_bytes text.old ++ families_text (port_families ports.now counters.now)) }
 {
-    put_passed(text, alloc, &HEARD, ports, counters, Passed::Heard)?;
-    put_passed(
+    put_traffic(text, alloc, &HEARD, ports, counters, Traffic::Heard)?;
+    put_traffic(
         text,
         alloc,
         &HEARD_BYTES,
         ports,
         counters,
-        Passed::HeardBytes,
+        Traffic::HeardBytes,
     )?;
-    put_passed(text, alloc, &SENT, ports, counters, Passed::Sent)?;
-    put_passed(text, alloc, &SENT_BYTES, ports, counters, Passed::SentBytes)?;
+    put_traffic(text, alloc, &SENT, ports, counters, Traffic::Sent)?;
+    put_traffic(
+        text,
+        alloc,
+        &SENT_BYTES,
+        ports,
+        counters,
+        Traffic::SentBytes,
+    )?;
     put_dropped(text, counters)
 }

@@ -3,7 +3,7 @@
 
 ghost use Rattle.std.specs.Prelude.{◌≡◌, get_or, replicate};
 ghost use Rattle.ipx_site.specs.RepeatLog.{port_repeats, repeats_of_ports};
-ghost use Rattle.ipx_sockets.specs.Moments.{AreLoggedIfDue, IsLoggedIfDue, untold};
+ghost use Rattle.ipx_sockets.specs.Moments.{AreLoggedIfDue, IsLoggedIfDue, never_logged};
 
 use crate::router_ports::{PortIndex, UdpRouterPorts};
 use ipx_sockets::ThrottledLog;
@@ -76,7 +76,7 @@ fn tell_ports<R: Log>(
 impl RepeatLog {
     /// Nothing has been logged yet.
     pub fn new() -> RepeatLog
-        ensures { result.ports ≡ replicate 16 untold }
+        ensures { result.ports ≡ replicate 16 never_logged }
     {
         RepeatLog {
             ports: [ThrottledLog::new(); MAX_PORTS],

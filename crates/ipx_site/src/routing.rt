@@ -3,7 +3,7 @@
 ghost use Rattle.std.specs.Prelude.{◌≡◌, ◌≤◌, ◌⊎◌, ◌+◌, [], false, None, All, IfErr, IfOk, OnErr, OnOk, is_ok, if◌then◌else◌, length, map};
 ghost use Rattle.ipx_router.specs.NewRouter.{IsOwnNetwork};
 ghost use Rattle.ipx_router.specs.Ports.{IsPortNumber};
-ghost use Rattle.ipx_static.specs.StaticAdvertisements.{AreWordsOf};
+ghost use Rattle.ipx_static.specs.StaticAdvertisements.{AreStaticAdvertisements};
 ghost use Rattle.ipx_carrier.specs.Turns.{peers_of};
 ghost use Rattle.ipx_carrier.specs.Counting.{counted};
 ghost use Rattle.ipx_source_checks.specs.SourceChecks.{nothing_dropped_yet};
@@ -26,9 +26,9 @@ use crate::ipxnet_ports::servers_of;
 use crate::router_ports::{PortIndex, RouterPorts, UdpRouterPorts};
 use crate::router_runs::run_router;
 use crate::running_router::{Parts, RunningRouter};
-use crate::secret_file::KeptClients;
+use crate::secret_file::SavedClients;
 use crate::starting::start_router;
-use crate::static_neighbours::silent_of;
+use crate::static_neighbours::static_neighbours_of;
 use ipx_carrier::OwnedRfc1234Ports;
 use ipx_config::{Accept, PortConfig, Rfc1234PortConfig, RouterConfig, ports_to_texts};
 use ipx_metrics::MeteredRouter;
@@ -73,7 +73,7 @@ fn is_ethernet(port: &PortConfig) -> bool
     ensures { result ≡ is_ethernet port.now }
 {
     match port {
-        PortConfig::Frames(_) => true,
+        PortConfig::Ethernet(_) => true,
         PortConfig::Rfc1234(_) | PortConfig::Ipxnet(_) => false,
     }
 }
@@ -109,14 +109,14 @@ fn router_of(alloc: Global, ports: &[PortConfig]) -> Result<Router, RouteFault>
 fn hearing_statics(
     alloc: Global,
     router: Router,
-    silent: &[StaticNeighbour],
+    neighbours: &[StaticNeighbour],
 ) -> Result<WithStatics<MeteredRouter>, AllocError>
-    requires { All (λ n. IsPortNumber (length router.ports) n.port) silent.now }
+    requires { All (λ n. IsPortNumber (length router.ports) n.port) neighbours.now }
     ensures router { IfOk result (λ c. c.core.router ≡ router) }
-    ensures statics { IfOk result (λ c. AreWordsOf silent.now c.advertisements × (c.said ≡ None)) }
+    ensures statics { IfOk result (λ c. AreStaticAdvertisements neighbours.now c.advertisements × (c.refreshed_at ≡ None)) }
 {
     let counted = MeteredRouter::new(alloc, router)?;
-    let Ok(core) = WithStatics::new(alloc, counted, silent) else {
+    let Ok(core) = WithStatics::new(alloc, counted, neighbours) else {
         return Err(AllocError);
     };
     Ok(core)
@@ -127,21 +127,21 @@ fn hearing_statics(
 fn core_of(
     alloc: Global,
     ports: &[PortConfig],
-    silent: &[StaticNeighbour],
+    neighbours: &[StaticNeighbour],
 ) -> Result<RateLimiter<WithStatics<MeteredRouter>>, RouteFault>
     requires own { All IsOwnNetwork (router_ports ports.now) }
-    requires there { All (λ n. IsPortNumber (length ports.now) n.port) silent.now }
+    requires there { All (λ n. IsPortNumber (length ports.now) n.port) neighbours.now }
     ensures router { IfOk result (λ c. c.core.core.router.ports ≡ router_ports ports.now) }
     ensures nothing { IfOk result (λ c. KnowsNothing c.core.core.router) }
-    ensures statics { IfOk result (λ c. AreWordsOf silent.now c.core.advertisements
-        × (c.core.said ≡ None)) }
+    ensures statics { IfOk result (λ c. AreStaticAdvertisements neighbours.now c.core.advertisements
+        × (c.core.refreshed_at ≡ None)) }
     ensures ports { IfOk result (λ c. c.ports ≡ router_ports ports.now) }
     ensures fresh { IfOk result (λ c. c.buckets ≡ fresh_buckets (limits_of ports.now)) }
 {
     let own = own_ports(alloc, ports)?;
     let limits = limits_of(alloc, ports)?;
     let router = router_of(alloc, ports)?;
-    let core = hearing_statics(alloc, router, silent)?;
+    let core = hearing_statics(alloc, router, neighbours)?;
     let core = RateLimiter::new(alloc, core, own, limits)?;
     Ok(core)
 }
@@ -163,9 +163,9 @@ fn core_of_file(
     ensures fresh { IfOk result (λ c.
         c.core.buckets ≡ fresh_buckets (limits_of site.now.ports.items)) }
 {
-    let silent = silent_of(alloc, &site.statics)?;
+    let neighbours = static_neighbours_of(alloc, &site.statics)?;
     let checked = checked_ports(alloc, &site.ports)?;
-    let core = core_of(alloc, &site.ports, &silent)?;
+    let core = core_of(alloc, &site.ports, &neighbours)?;
     Ok(SourceChecked::new(core, checked))
 }
 
@@ -253,7 +253,7 @@ fn port_indices_of(alloc: Global, ports: &[PortConfig]) -> Result<Vec<PortIndex>
                 port_indices.push(PortIndex::Datagrams(datagrams))?;
                 datagrams += 1;
             }
-            PortConfig::Frames(_) => {
+            PortConfig::Ethernet(_) => {
                 port_indices.push(PortIndex::Ethernet(ethernet))?;
                 ethernet += 1;
             }
@@ -330,7 +330,7 @@ fn datagrams_of<R: Net>(
 fn bound_ports<R: Net + Log>(
     rt: &R,
     alloc: Global,
-    kept: &KeptClients,
+    kept: &SavedClients,
     ports: &[PortConfig],
 ) -> Result<UdpRouterPorts, RouteFault>
     ensures { IfOk result (ArePortsBound kept.now.secret kept.now.clients.items ports.now) }
@@ -362,7 +362,7 @@ pub(crate) fn start<'a, R: Net + Log + SystemClock>(
     rt: &'a R,
     alloc: Global,
     site: RouterConfig,
-    kept: KeptClients,
+    kept: SavedClients,
 ) -> Result<RunningRouter<'a, R>, RouteFault>
     requires own { All IsOwnNetwork (router_ports site.ports.items) }
     requires there { HearsAtPorts site }
@@ -402,9 +402,9 @@ pub(crate) fn start<'a, R: Net + Log + SystemClock>(
         ports,
         clock,
         ready,
-        status: site.status,
-        tables: site.tables,
-        listed: ClientsFile::new(site.secret_file, kept),
+        metrics_file: site.metrics_file,
+        tables_file: site.tables_file,
+        clients_file: ClientsFile::new(site.secret_file, kept),
     };
     Ok(RunningRouter::new(alloc, parts))
 }

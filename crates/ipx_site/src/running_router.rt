@@ -58,12 +58,12 @@ pub struct RunningRouter<'a, R: SystemClock> {
     ports: UdpRouterPorts,
     clock: SteadyClock<'a, R>,
     ready: Poller,
-    status: Option<String>,
-    tables: Option<String>,
+    metrics_file: Option<String>,
+    tables_file: Option<String>,
     totals: RouterCounts,
-    known: RouteChangeLog,
-    clients: ClientLog,
-    listed: ClientsFile,
+    route_changes: RouteChangeLog,
+    client_log: ClientLog,
+    clients_file: ClientsFile,
     warnings: Warnings,
     drops: DropLog,
     /// How often it repeated its requests.
@@ -84,12 +84,12 @@ impl<'a, R: SystemClock> Drop for RunningRouter<'a, R> {
             ports: _,
             clock: _,
             ready: _,
-            status: _,
-            tables: _,
+            metrics_file: _,
+            tables_file: _,
             totals: _,
-            known: _,
-            clients: _,
-            listed: _,
+            route_changes: _,
+            client_log: _,
+            clients_file: _,
             warnings: _,
             drops: _,
             asked: _,
@@ -107,9 +107,9 @@ pub struct Parts<'a, R: SystemClock> {
     pub ports: UdpRouterPorts,
     pub clock: SteadyClock<'a, R>,
     pub ready: Poller,
-    pub status: Option<String>,
-    pub tables: Option<String>,
-    pub listed: ClientsFile,
+    pub metrics_file: Option<String>,
+    pub tables_file: Option<String>,
+    pub clients_file: ClientsFile,
 }
 
 impl<'a, R: SystemClock> RunningRouter<'a, R> {
@@ -127,12 +127,12 @@ impl<'a, R: SystemClock> RunningRouter<'a, R> {
             ports: parts.ports,
             clock: parts.clock,
             ready: parts.ready,
-            status: parts.status,
-            tables: parts.tables,
+            metrics_file: parts.metrics_file,
+            tables_file: parts.tables_file,
             totals: RouterCounts::new(),
-            known: RouteChangeLog::new(alloc),
-            clients: ClientLog::new(alloc),
-            listed: parts.listed,
+            route_changes: RouteChangeLog::new(alloc),
+            client_log: ClientLog::new(alloc),
+            clients_file: parts.clients_file,
             warnings: Warnings::new(),
             drops: DropLog::new(),
             asked: 0,
@@ -144,11 +144,11 @@ impl<'a, R: SystemClock> RunningRouter<'a, R> {
 
     fn metrics(&self, now: u64) -> Metrics
         ensures happened { happened_in result ≡ happened self.now.totals self.now.core self.now.ports }
-        ensures metrics { AreMetrics self.now.totals self.now.core self.now.ports self.now.known now
+        ensures metrics { AreMetrics self.now.totals self.now.core self.now.ports self.now.route_changes now
             result }
     {
         self.totals
-            .metrics(&self.core, &self.ports, &self.known, now)
+            .metrics(&self.core, &self.ports, &self.route_changes, now)
     }
 
     /// The text of its metrics file.
@@ -207,7 +207,7 @@ impl<'a, R: SystemClock> RunningRouter<'a, R> {
         ensures drops { self.new.drops ≡ self.old.drops }
         ensures asked { self.new.asked ≡ self.old.asked }
     {
-        if self.clients.tell(rt, alloc, &self.ports, now).is_err() {
+        if self.client_log.tell(rt, alloc, &self.ports, now).is_err() {
             self.totals.count_out_of_memory();
         }
         if !is_over(self.looked, self.look_period(), now) {
@@ -216,7 +216,7 @@ impl<'a, R: SystemClock> RunningRouter<'a, R> {
         self.looked = Some(now);
         self.responses = self.core.core().core().core().outcomes().heard;
         if self
-            .known
+            .route_changes
             .look(rt, alloc, self.core.core().core().core().router(), now)
             .is_err()
         {
@@ -241,7 +241,7 @@ impl<'a, R: SystemClock> RunningRouter<'a, R> {
         ensures drops { self.new.drops ≡ self.old.drops }
         ensures asked { self.new.asked ≡ self.old.asked }
     {
-        let Some(path) = &self.tables else {
+        let Some(path) = &self.tables_file else {
             return;
         };
         let Ok(text) = self.tables_text(alloc, now) else {
@@ -268,7 +268,7 @@ impl<'a, R: SystemClock> RunningRouter<'a, R> {
         }
         self.written = Some(now);
         self.write_tables(rt, alloc, now);
-        let Some(path) = &self.status else {
+        let Some(path) = &self.metrics_file else {
             return;
         };
         let Ok(text) = self.metrics_text(alloc, now) else {
@@ -290,7 +290,7 @@ impl<'a, R: SystemClock> RunningRouter<'a, R> {
         ensures drops { self.new.drops ≡ self.old.drops }
         ensures asked { self.new.asked ≡ self.old.asked }
     {
-        match self.listed.keep(rt, alloc, &self.ports, now) {
+        match self.clients_file.keep(rt, alloc, &self.ports, now) {
             Ok(()) => {}
             Err(ClientsFileFault::OutOfMemory) => self.totals.count_out_of_memory(),
             Err(ClientsFileFault::File) => self.totals.fail_file(),

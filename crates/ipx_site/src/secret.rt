@@ -3,7 +3,7 @@
 
 ghost use Rattle.std.specs.Prelude.{◌≡◌, IfErr};
 
-use crate::secret_file::{KeptClients, KeptText, kept_in, write_private};
+use crate::secret_file::{KeptText, SavedClients, kept_in, write_private};
 use ipx_config::{PortConfig, RouterConfig, tell_no_memory};
 use ipx_inspect::{InputFault, read_up_to};
 use ipxnet_server::Secret;
@@ -40,8 +40,8 @@ fn random_secret<R: Files>(rt: &R) -> io::Result<Secret> {
 }
 
 /// Makes a secret and its file.
-fn make_secret<R: Files>(rt: &R, alloc: Global, path: &str) -> Result<KeptClients, SecretFault> {
-    let kept = KeptClients::new(alloc, random_secret(rt).map_err(SecretFault::Random)?);
+fn make_secret<R: Files>(rt: &R, alloc: Global, path: &str) -> Result<SavedClients, SecretFault> {
+    let kept = SavedClients::new(alloc, random_secret(rt).map_err(SecretFault::Random)?);
     let Ok(text) = kept.to_text(alloc) else {
         return Err(SecretFault::OutOfMemory);
     };
@@ -66,12 +66,12 @@ fn kept_of_text<R: Log>(
     path: &str,
     name: &str,
     text: &[u8],
-) -> Result<KeptClients, SecretFault> {
+) -> Result<SavedClients, SecretFault> {
     match kept_in(alloc, text) {
         Ok(KeptText::Whole(kept)) => Ok(kept),
         Ok(KeptText::Cut(secret)) => {
             tell_cut(rt, path, name);
-            Ok(KeptClients::new(alloc, secret))
+            Ok(SavedClients::new(alloc, secret))
         }
         Ok(KeptText::None) => Err(SecretFault::Text),
         Err(_) => Err(SecretFault::OutOfMemory),
@@ -84,7 +84,7 @@ fn kept_of_file<R: Files + Log>(
     alloc: Global,
     path: &str,
     name: &str,
-) -> Result<KeptClients, SecretFault> {
+) -> Result<SavedClients, SecretFault> {
     let mut file = match File::open(rt, name) {
         Ok(file) => file,
         Err(error) if error.kind() == ErrorKind::NotFound => return make_secret(rt, alloc, name),
@@ -135,15 +135,15 @@ pub(crate) fn kept_of<R: Files + Log + Eprint>(
     alloc: Global,
     path: &str,
     site: &RouterConfig,
-) -> Result<KeptClients, u8>
+) -> Result<SavedClients, u8>
     ensures { IfErr result (λ status. status ≡ 1) }
 {
     if !has_ipxnet_port(&site.ports) {
-        return Ok(KeptClients::new(alloc, Secret([0; 32])));
+        return Ok(SavedClients::new(alloc, Secret([0; 32])));
     }
     let Some(name) = &site.secret_file else {
         return match random_secret(rt) {
-            Ok(secret) => Ok(KeptClients::new(alloc, secret)),
+            Ok(secret) => Ok(SavedClients::new(alloc, secret)),
             Err(error) => Err(tell_secret_fault(rt, path, RANDOM, SecretFault::Random(error))),
         };
     };

@@ -22,18 +22,18 @@ const MODE: u32 = 0o600;
 
 /// A secret, and the clients that a router had before it was started again.
 #[derive(Drop)]
-pub struct KeptClients {
+pub struct SavedClients {
     pub secret: Secret,
     pub clients: Vec<ClientPlace>,
 }
 
-impl KeptClients {
+impl SavedClients {
     /// A secret, and no clients.
-    pub fn new(alloc: Global, secret: Secret) -> KeptClients
+    pub fn new(alloc: Global, secret: Secret) -> SavedClients
         ensures secret { result.secret ≡ secret }
         ensures clients { result.clients.items ≡ [] }
     {
-        KeptClients {
+        SavedClients {
             secret,
             clients: Vec::new(alloc),
         }
@@ -52,7 +52,7 @@ impl KeptClients {
 #[derive(Drop)]
 pub enum KeptText {
     /// A secret, and a whole list of clients, or none after it.
-    Whole(KeptClients),
+    Whole(SavedClients),
     /// A secret, and after it something else.
     Cut(Secret),
     /// No secret.
@@ -94,7 +94,7 @@ pub fn kept_in(alloc: Global, text: &[u8]) -> Result<KeptText, AllocError>
         return Ok(KeptText::None);
     };
     match clients_after(alloc, rest)? {
-        Some(clients) => Ok(KeptText::Whole(KeptClients { secret, clients })),
+        Some(clients) => Ok(KeptText::Whole(SavedClients { secret, clients })),
         None => Ok(KeptText::Cut(secret)),
     }
 }

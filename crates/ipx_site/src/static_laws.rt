@@ -5,7 +5,7 @@ ghost use Rattle.ipx_site.specs.StaticsHold.{FilesMeetPremises, RoutesOfFilesHol
 use ipx_static::{static_routes_hold, static_services_hold, statics_are_counted_separately};
 
 /// Each static route and service of a router's file meets what `static_routes_hold` and
-/// `static_services_hold` of `ipx_static` require of a file. What else they require concerns the
+/// `static_services_hold` of `ipx_static` require of a file. What else they require classes the
 /// run.
 pub fn entries_of_files_meet_premises()
     ensures { FilesMeetPremises }

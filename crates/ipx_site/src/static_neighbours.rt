@@ -1,10 +1,10 @@
-//! The silent neighbours from which static entries are heard.
+//! The neighbours that advertise the static entries.
 
 ghost use Rattle.std.specs.Prelude.{◌≡◌, ℕ, [], All, IfOk, OnOk};
 ghost use Rattle.std.specs.List.{AllZip, filter_map, list_any};
 ghost use Rattle.ipx_router.specs.Ports.{IsPortNumber};
 ghost use Rattle.ipx_config.specs.StaticLists.{is_one_source, named_sources, route_by, service_by, with_source};
-ghost use Rattle.ipx_site.specs.StaticNeighbours.{AreSilent, IsSilent};
+ghost use Rattle.ipx_site.specs.StaticNeighbours.{AreStaticNeighbours, IsStaticNeighbour};
 
 use ipx_config::{StaticEntry, is_one_source};
 use ipx_control::{RipEntry, ServiceEntry};
@@ -70,12 +70,12 @@ fn services_by(
 }
 
 /// A neighbour, and the static entries that count as its advertisements.
-fn silent_by(
+fn neighbour_by(
     alloc: Global,
     entries: &[StaticEntry],
     by: Source,
 ) -> Result<StaticNeighbour, AllocError>
-    ensures { IfOk result (IsSilent entries.now by) }
+    ensures { IfOk result (IsStaticNeighbour entries.now by) }
 {
     let routes = routes_by(alloc, entries, by)?;
     let services = services_by(alloc, entries, by)?;
@@ -88,30 +88,33 @@ fn silent_by(
 }
 
 /// The neighbour of each source.
-fn silent_by_each(
+fn neighbours_by(
     alloc: Global,
     entries: &[StaticEntry],
     sources: &[Source],
 ) -> Result<Vec<StaticNeighbour>, AllocError>
-    ensures { IfOk result (λ v. AllZip (IsSilent entries.now) sources.now v.items) }
+    ensures { IfOk result (λ v. AllZip (IsStaticNeighbour entries.now) sources.now v.items) }
 {
-    let mut silent = Vec::new(alloc);
+    let mut neighbours = Vec::new(alloc);
     for by in sources {
-        let neighbour = silent_by(alloc, entries, *by)?;
-        silent.push(neighbour)?;
+        let neighbour = neighbour_by(alloc, entries, *by)?;
+        neighbours.push(neighbour)?;
     }
-    Ok(silent)
+    Ok(neighbours)
 }
 
-/// The silent neighbours of the static entries, each once, with the entries that count as its
+/// The neighbours of the static entries, each once, with the entries that count as its
 /// advertisements.
-pub fn silent_of(alloc: Global, entries: &[StaticEntry]) -> Result<Vec<StaticNeighbour>, AllocError>
-    ensures silent { IfOk result (λ v. AreSilent entries.now v.items) }
+pub fn static_neighbours_of(
+    alloc: Global,
+    entries: &[StaticEntry],
+) -> Result<Vec<StaticNeighbour>, AllocError>
+    ensures neighbours { IfOk result (λ v. AreStaticNeighbours entries.now v.items) }
     // If the ports of the entries exist, so do those of the neighbours.
     ensures there { (count : ℕ) → All (λ e. IsPortNumber count e.by.port) entries.now
         → IfOk result (λ v. All (λ n. IsPortNumber count n.port) v.items) }
 {
     let sources = sources_of(alloc, entries)?;
-    let silent = silent_by_each(alloc, entries, &sources)?;
-    Ok(silent)
+    let neighbours = neighbours_by(alloc, entries, &sources)?;
+    Ok(neighbours)
 }

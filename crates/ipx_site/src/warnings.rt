@@ -2,7 +2,7 @@
 
 ghost use Rattle.std.specs.Prelude.{◌≡◌, ◌↔◌, ◌<◌, ◌^◌, ℕ, IsTrue, get_or, replicate};
 ghost use Rattle.ipx_site.specs.IdleTime.{IsLineDue, counts_to_log, happened_in};
-ghost use Rattle.ipx_sockets.specs.Moments.{counts_of, AreLoggedIfDue, IsDue, IsReached, untold};
+ghost use Rattle.ipx_sockets.specs.Moments.{counts_of, AreLoggedIfDue, IsDue, IsReached, never_logged};
 
 use crate::metrics::Metrics;
 use ipx_rate_limits::DirectedDrops;
@@ -119,7 +119,7 @@ fn warnings_in(f: &Metrics) -> [Warning; CAUSES]
 impl Warnings {
     /// Nothing has been logged yet.
     pub fn new() -> Warnings
-        ensures { result.causes ≡ replicate 19 untold }
+        ensures { result.causes ≡ replicate 19 never_logged }
     {
         Warnings {
             causes: [ThrottledLog::new(); CAUSES],
@@ -136,7 +136,7 @@ impl Warnings {
 
     /// Whether the warning about frames of another encapsulation is due.
     pub fn are_encapsulations_due(&self, metrics: &Metrics, now: u64) -> bool
-        ensures { IsTrue result ↔ IsDue (get_or self.now.causes 12 untold)
+        ensures { IsTrue result ↔ IsDue (get_or self.now.causes 12 never_logged)
             metrics.now.other_encapsulation now }
     {
         self.causes[ENCAPSULATIONS].is_due(metrics.other_encapsulation, now)

@@ -57,7 +57,7 @@ accept = \"any\"
 fn plain(site: &RouterConfig, index: usize) -> Option<&Rfc1234PortConfig> {
     match site.ports.get(index)? {
         PortConfig::Rfc1234(port) => Some(port),
-        PortConfig::Frames(_) | PortConfig::Ipxnet(_) => None,
+        PortConfig::Ethernet(_) | PortConfig::Ipxnet(_) => None,
     }
 }
 
@@ -121,11 +121,11 @@ fn reads_both_files(rt: HostRuntime) {
     let Some(site) = site(rt.alloc(), SITE) else {
         panic!(rt; "the file has a fault");
     };
-    let Some(status) = &site.status else {
+    let Some(status) = &site.metrics_file else {
         panic!(rt; "it has no metrics_file");
     };
     assert_eq!(rt; status.as_str(), "/run/ipx/hq/hq.prom");
-    let Some(tables) = &site.tables else {
+    let Some(tables) = &site.tables_file else {
         panic!(rt; "it has no file of tables");
     };
     assert_eq!(rt; tables.as_str(), "/run/ipx/hq/hq.tables");

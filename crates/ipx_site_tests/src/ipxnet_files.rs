@@ -49,7 +49,7 @@ fn is_open(port: &IpxnetPortConfig, udp_port: u16) -> bool {
 
 /// One such port, and no file besides.
 fn is_server(site: &RouterConfig, udp_port: u16) -> bool {
-    let files = [&site.status, &site.tables, &site.secret_file];
+    let files = [&site.metrics_file, &site.tables_file, &site.secret_file];
     files.iter().all(|file| file.is_none())
         && site.statics.is_empty()
         && match site.ports.as_slice() {

@@ -36,7 +36,7 @@ directed = \"none\"
 fn players(site: &RouterConfig, index: usize) -> Option<&IpxnetPortConfig> {
     match site.ports.get(index)? {
         PortConfig::Ipxnet(port) => Some(port),
-        PortConfig::Rfc1234(_) | PortConfig::Frames(_) => None,
+        PortConfig::Rfc1234(_) | PortConfig::Ethernet(_) => None,
     }
 }
 

@@ -3,7 +3,7 @@
 
 use ipx_config::{ConfigError, PortConfig, ports_to_texts, read_host, read_site};
 use ipx_rate_limits::limits_of;
-use ipx_site::silent_of;
+use ipx_site::static_neighbours_of;
 
 /// A router with an RFC 1234 port, an Ethernet port, an ipxnet port, and static entries.
 const SITE: &str = "\
@@ -71,7 +71,7 @@ const CUT: &str = "network = ";
 fn reached(port: &PortConfig) -> usize {
     match port {
         PortConfig::Rfc1234(port) => port.peers.len(),
-        PortConfig::Frames(port) => port.ends.len(),
+        PortConfig::Ethernet(port) => port.ends.len(),
         PortConfig::Ipxnet(port) => port.peers.len(),
     }
 }
@@ -80,11 +80,13 @@ fn reached(port: &PortConfig) -> usize {
 fn refused_site(rt: HostRuntime) {
     match read_site(rt.alloc(), SITE) {
         Ok(site) => {
-            assert!(rt; site.ports.len() == 4 && site.status.is_some() && site.tables.is_some());
+            assert!(rt;
+                site.ports.len() == 4 && site.metrics_file.is_some() && site.tables_file.is_some()
+            );
             assert!(rt; site.ports.first().is_some_and(|port| reached(port) == 2));
             assert!(rt; site.ports.last().is_some_and(|port| reached(port) == 2));
             assert!(rt; site.statics.len() == 2);
-            if let Ok(silent) = silent_of(rt.alloc(), &site.statics) {
+            if let Ok(silent) = static_neighbours_of(rt.alloc(), &site.statics) {
                 assert!(rt; silent.len() == 2 && silent[1].services.len() == 1);
             }
             if let Ok(limits) = limits_of(rt.alloc(), &site.ports) {

@@ -3,7 +3,7 @@
 use crate::fixture::{site, site_line};
 use ipx_config::{StaticEntry, StaticItem};
 use ipx_control::{RipEntry, ServiceEntry};
-use ipx_site::silent_of;
+use ipx_site::static_neighbours_of;
 use ipx_tables::Source;
 use ipx_wire::{Address, Network, Node, Socket};
 use std::alloc::{AllocError, Global};
@@ -157,7 +157,7 @@ fn makes_a_neighbour_of_each(rt: HostRuntime) -> Result<(), AllocError> {
     let Some(read) = read(rt.alloc(), ENTRIES)? else {
         panic!(rt; "the file has a fault");
     };
-    let silent = silent_of(rt.alloc(), &read)?;
+    let silent = static_neighbours_of(rt.alloc(), &read)?;
     assert_eq!(rt; silent.len(), 2);
     assert!(rt; silent[0].port == 1 && silent[0].node == FIRST.neighbour);
     let routes = [route(0xaa, 1, 6), route(0xffff_fffd, 2, 6)];

@@ -37,7 +37,7 @@ switch = false
 /// The Ethernet port with this index.
 fn wire(site: &RouterConfig, index: usize) -> Option<&EthernetPortConfig> {
     match site.ports.get(index)? {
-        PortConfig::Frames(port) => Some(port),
+        PortConfig::Ethernet(port) => Some(port),
         PortConfig::Rfc1234(_) | PortConfig::Ipxnet(_) => None,
     }
 }
@@ -53,7 +53,7 @@ fn is_first(port: &EthernetPortConfig) -> bool {
         && port.udp_port == 24002
         && port.cost == 1
         && port.ends.as_slice() == near.as_slice()
-        && port.joined
+        && port.switched
 }
 
 fn is_second(port: &EthernetPortConfig) -> bool {
@@ -64,7 +64,7 @@ fn is_second(port: &EthernetPortConfig) -> bool {
         && port.udp_port == 258
         && port.cost == 6
         && port.ends.as_slice() == far.as_slice()
-        && !port.joined
+        && !port.switched
 }
 
 #[test]
@@ -73,7 +73,7 @@ fn reads_ethernet(rt: HostRuntime) {
         panic!(rt; "the file has a fault");
     };
     assert_eq!(rt; site.ports.len(), 3);
-    assert!(rt; site.ports[0].kind() == Kind::Rfc1234 && site.ports[1].kind() == Kind::Frames);
+    assert!(rt; site.ports[0].kind() == Kind::Rfc1234 && site.ports[1].kind() == Kind::Ethernet);
     assert!(rt; wire(&site, 1).is_some_and(|port| is_first(port)));
     assert!(rt; wire(&site, 2).is_some_and(|port| is_second(port)));
 }

@@ -17,21 +17,21 @@ IsReached moment now = MatchOption moment ⊥ (λ t. t ≤ now)
 
 -- a cause is due: it occurred since it was last logged, and that was a minute ago or never
 abbrev pub IsDue : ThrottledLog → ℕ → ℕ → Type 0
-IsDue c count now = (c.told < count) × IsMinuteOver c.at now
+IsDue c count now = (c.logged < count) × IsMinuteOver c.at now
 
 -- a cause that occurred `count` times, before and after a time: it is logged then exactly if it is due
 abbrev pub IsLoggedIfDue : ℕ → ℕ → ThrottledLog → ThrottledLog → Type 0
-IsLoggedIfDue count now before after = (IsDue before count now → (after.told ≡ count) × (after.at ≡ Some now))
+IsLoggedIfDue count now before after = (IsDue before count now → (after.logged ≡ count) × (after.at ≡ Some now))
     × ((IsDue before count now → ⊥) → after ≡ before)
 
 -- a cause that has not been logged
-abbrev pub untold : ThrottledLog
-untold = record { told = 0; at = None }
+abbrev pub never_logged : ThrottledLog
+never_logged = record { logged = 0; at = None }
 
 -- one of the first `count` causes is due, given how often each occurred
 abbrev pub IsOneDueOf : ℕ → List ThrottledLog → List ℕ → ℕ → Type 0
 IsOneDueOf count causes happened now = (place : ℕ) × (place < count)
-    × IsDue (get_or causes place untold) (get_or happened place 0) now
+    × IsDue (get_or causes place never_logged) (get_or happened place 0) now
 
 -- one of all causes is due
 abbrev pub IsOneDue : List ThrottledLog → List ℕ → ℕ → Type 0
@@ -41,7 +41,7 @@ IsOneDue causes happened now = IsOneDueOf (length causes) causes happened now
 abbrev pub AreLoggedIfDue : List ℕ → ℕ → List ThrottledLog → List ThrottledLog → Type 0
 AreLoggedIfDue happened now before after = (length after ≡ length before)
     × ((place : ℕ) → place < length before → IsLoggedIfDue (get_or happened place 0) now
-    (get_or before place untold) (get_or after place untold))
+    (get_or before place never_logged) (get_or after place never_logged))
 
 -- for this long from now there is nothing to do, at any time that a clock can show. If it is less than ten
 -- seconds, which is the most, there is something to do then

@@ -9,16 +9,19 @@ const PAUSE: u64 = 60_000;
 /// A cause that is logged: how often it had happened when it was logged last, and when that was.
 #[derive(Clone, Copy, PartialEq, Eq)]
 pub struct ThrottledLog {
-    told: u64,
+    logged: u64,
     at: Option<u64>,
 }
 
 impl ThrottledLog {
     /// A cause that has not been logged yet.
     pub fn new() -> ThrottledLog
-        ensures untold { (result.told ≡ 0) × (result.at ≡ None) }
+        ensures never_logged { (result.logged ≡ 0) × (result.at ≡ None) }
     {
-        ThrottledLog { told: 0, at: None }
+        ThrottledLog {
+            logged: 0,
+            at: None,
+        }
     }
 
     /// Whether a cause that happened `count` times is due. It is if it has happened since it was
@@ -26,7 +29,7 @@ impl ThrottledLog {
     pub fn is_due(&self, count: u64, now: u64) -> bool
         ensures { IsTrue result ↔ IsDue self.now count now }
     {
-        if count <= self.told {
+        if count <= self.logged {
             return false;
         }
         match self.at {
@@ -39,15 +42,15 @@ impl ThrottledLog {
     /// since it was last logged.
     pub fn tell(&mut self, count: u64, now: u64) -> Option<u64>
         ensures told { IfSome result (λ more. IsDue self.old count now
-            × (more + self.old.told ≡ count) × (self.new.told ≡ count) × (self.new.at ≡ Some now)) }
+            × (more + self.old.logged ≡ count) × (self.new.logged ≡ count) × (self.new.at ≡ Some now)) }
         ensures silent { result ≡ None → self.new ≡ self.old }
         ensures due { IsDue self.old count now → (result ≡ None → ⊥) }
     {
         if !self.is_due(count, now) {
             return None;
         }
-        let more = count - self.told;
-        self.told = count;
+        let more = count - self.logged;
+        self.logged = count;
         self.at = Some(now);
         Some(more)
     }
@@ -59,7 +62,7 @@ impl ThrottledLog {
             (λ m. (t : ℕ) → IsDue self.now count t ↔ (m ≤ t)) }
         ensures reached { (t : ℕ) → t < 2 ^ 64 → IsReached result t ↔ IsDue self.now count t }
     {
-        if count <= self.told {
+        if count <= self.logged {
             return None;
         }
         match self.at {

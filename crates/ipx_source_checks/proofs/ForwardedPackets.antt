@@ -4,7 +4,7 @@ use Rattle.std.proofs.lemmas.Bool.Decides.{nat_tests}
 use Rattle.ipx_wire.specs.Ipx.{IsIpx, PacketView}
 use Rattle.ipx_wire.specs.declared.ipx.packet.IpxHeader.{IpxHeader}
 use Rattle.ipx_router.specs.declared.port.Port.{Port}
-use Rattle.ipx_router.specs.Classify.{concern_of}
+use Rattle.ipx_router.specs.Classify.{class_of}
 use Rattle.ipx_router.specs.RouterView.{RouterView}
 use Rattle.ipx_source_checks.specs.declared.failed_check.CheckedPort.{CheckedPort}
 use Rattle.ipx_source_checks.specs.declared.failed_check.FailedCheck.{FailedCheck}
@@ -19,8 +19,8 @@ OnePacket = (p q : PacketView) (bytes s t : List ℕ) → IsIpx p bytes s → Is
 over_none : (hops n : ℕ) → hops ≡ n + 1 → not (hops == 0) ≡ true
 over_none hops n is = grind (arith, nat_tests)
 
-forwarded : (at : Port) (h : IpxHeader) (n : ℕ) → h.hops ≡ n + 1 → is_control (concern_of at h) ≡ true → is_forwarded_control at h ≡ true
-forwarded at h n is control = ap (λ b. b && is_control (concern_of at h)) (over_none h.hops n is) ∙ control
+forwarded : (at : Port) (h : IpxHeader) (n : ℕ) → h.hops ≡ n + 1 → is_control (class_of at h) ≡ true → is_forwarded_control at h ≡ true
+forwarded at h n is control = ap (λ b. b && is_control (class_of at h)) (over_none h.hops n is) ∙ control
 
 -- the hops of what a router forwarded
 hops_of : OnePacket → (r : RouterView) (sent : List ℕ) → IsForwardedBy r sent → (p : PacketView) (tail : List ℕ) → IsIpx p sent tail

@@ -1,7 +1,7 @@
 -- RIP or SAP of a group or of zero fails a source check at an Ethernet port.
 use Rattle.std.proofs.Common.{◌≡◌, ◌==◌, ℕ, Bool, true, false, List, Some, ap, refl, slice_get, inl, inr}
 use Rattle.ipx_wire.specs.declared.ipx.packet.IpxHeader.{IpxHeader}
-use Rattle.ipx_router.specs.Classify.{concern_of}
+use Rattle.ipx_router.specs.Classify.{class_of}
 use Rattle.ipx_source_checks.specs.declared.failed_check.CheckedPort.{CheckedPort}
 use Rattle.ipx_source_checks.specs.declared.failed_check.FailedCheck.{FailedCheck}
 use Rattle.ipx_source_checks.specs.declared.failed_check.SourceFault.{SourceFault}
@@ -12,7 +12,7 @@ use Rattle.ipx_source_checks.specs.SourceChecks.{FailsAt, FailsCheck, is_control
 
 -- RIP or SAP that was forwarded fails one check, and what was not forwarded the other
 either : (at : CheckedPort) (h : IpxHeader) (none ether group control : Bool) → (h.hops == 0) ≡ none → at.ethernet ≡ ether → is_group_or_zero h.from.node ≡ group
-    → is_control (concern_of at.port h) ≡ control → ether ≡ true → group ≡ true → control ≡ true → (fault : SourceFault) × FailsCheck at h fault
+    → is_control (class_of at.port h) ≡ control → ether ≡ true → group ≡ true → control ≡ true → (fault : SourceFault) × FailsCheck at h fault
 either at h true ether group control n e g c e1 g1 c1 = (GroupSource, cc)
 either at h false ether group control n e g c e1 g1 c1 = (ForwardedControl, cc)
 
@@ -20,7 +20,7 @@ fails : (ports : List CheckedPort) (port : ℕ) (at : CheckedPort) (bytes : List
     → (f : FailedCheck) × FailsAt ports port bytes f
 fails ports port at bytes there ether of =
     let (p, begins, control, group) = of in
-    let (fault, is) = either at p.header (p.header.hops == 0) at.ethernet (is_group_or_zero p.header.from.node) (is_control (concern_of at.port p.header)) refl refl refl refl ether group control in
+    let (fault, is) = either at p.header (p.header.hops == 0) at.ethernet (is_group_or_zero p.header.from.node) (is_control (class_of at.port p.header)) refl refl refl refl ether group control in
     let f : FailedCheck = record {
       fault = fault;
       packet = record { port = port; to = Some p.header.to; from = Some p.header.from };

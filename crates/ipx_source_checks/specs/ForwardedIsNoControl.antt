@@ -3,7 +3,7 @@ use Rattle.std.specs.Prelude.{◌≡◌, ℕ, true, List, Some, slice_get}
 use Rattle.ipx_wire.specs.declared.address.Node.{Node}
 use Rattle.ipx_wire.specs.Ipx.{BeginsWith, PacketView}
 use Rattle.ipx_router.specs.declared.port.Port.{Port}
-use Rattle.ipx_router.specs.Classify.{concern_of}
+use Rattle.ipx_router.specs.Classify.{class_of}
 use Rattle.ipx_router.specs.Forwarded.{ForwardsOneHopOn}
 use Rattle.ipx_router.specs.OutcomeView.{Forward}
 use Rattle.ipx_router.specs.RouterView.{RouterView}
@@ -18,7 +18,7 @@ IsForwardedBy r sent = (port : ℕ) × (bytes : List ℕ) × (by : ℕ) × (next
 
 -- bytes that came to this port are RIP or SAP for its router
 abbrev pub IsControlAt : Port → List ℕ → Type 0
-IsControlAt at bytes = (p : PacketView) × BeginsWith bytes p × (is_control (concern_of at p.header) ≡ true)
+IsControlAt at bytes = (p : PacketView) × BeginsWith bytes p × (is_control (class_of at p.header) ≡ true)
 
 module _ {C : Type 0} (hears : C → ℕ → List ℕ → ℕ → C → Type 0) where
   -- if what any router forwards is RIP or SAP at the port where it arrives, the core below does not change

@@ -4,10 +4,10 @@ use Rattle.ipx_wire.specs.Assigned.{local_network}
 use Rattle.ipx_wire.specs.Ipx.{BeginsWith, PacketView}
 use Rattle.ipx_wire.specs.declared.address.Node.{Node}
 use Rattle.ipx_wire.specs.declared.ipx.packet.IpxHeader.{IpxHeader}
-use Rattle.ipx_router.specs.declared.classify.Concern.{Concern}
-use Rattle.ipx_router.specs.declared.classify.Concern.TheVariants as concerns
+use Rattle.ipx_router.specs.declared.classify.PacketClass.{PacketClass}
+use Rattle.ipx_router.specs.declared.classify.PacketClass.TheVariants as classes
 use Rattle.ipx_router.specs.declared.port.Port.{Port}
-use Rattle.ipx_router.specs.Classify.{concern_of, is_node}
+use Rattle.ipx_router.specs.Classify.{class_of, is_node}
 use Rattle.ipx_carrier.specs.Counting.{raised}
 use Rattle.ipx_source_checks.specs.declared.drops.SourceDropCount.{SourceDropCount}
 use Rattle.ipx_source_checks.specs.declared.drops.SourceDrops.{SourceDrops}
@@ -17,16 +17,16 @@ use Rattle.ipx_source_checks.specs.declared.failed_check.SourceFault.{SourceFaul
 use Rattle.ipx_source_checks.specs.declared.failed_check.SourceFault.TheVariants.{ForwardedControl, GroupSource, LoopedSource}
 
 -- a packet is RIP or SAP for the router itself
-abbrev pub is_control : Concern → Bool
-is_control concerns.Rip = true
-is_control concerns.Sap = true
-is_control concerns.Forward = false
-is_control (concerns.Dropped reason) = false
+abbrev pub is_control : PacketClass → Bool
+is_control classes.Rip = true
+is_control classes.Sap = true
+is_control classes.Forward = false
+is_control (classes.Dropped reason) = false
 
 -- RIP or SAP for the router with this port, which another router forwarded. Each router that forwards a
 -- packet adds a hop, and a neighbour sends its own packets with none
 abbrev pub is_forwarded_control : Port → IpxHeader → Bool
-is_forwarded_control at h = not (h.hops == 0) && is_control (concern_of at h)
+is_forwarded_control at h = not (h.hops == 0) && is_control (class_of at h)
 
 -- a node is a group of stations, whose address has the bit that is sent first, or zero: no station has either
 abbrev pub is_group_or_zero : Node → Bool
@@ -36,7 +36,7 @@ is_group_or_zero node =
 -- RIP or SAP for the router, which was not forwarded and came to an Ethernet port from such a node
 abbrev pub is_group_source : CheckedPort → IpxHeader → Bool
 is_group_source at h =
-    at.ethernet && (h.hops == 0) && is_group_or_zero h.from.node && is_control (concern_of at.port h)
+    at.ethernet && (h.hops == 0) && is_group_or_zero h.from.node && is_control (class_of at.port h)
 
 -- a packet for a network other than the port's, which claims to come from that same network: a node of it
 -- needs no router to send there

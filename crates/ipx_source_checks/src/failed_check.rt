@@ -1,7 +1,7 @@
 //! Which packets fail a source check.
 
 ghost use Rattle.std.specs.Prelude.{◌≡◌, IfNone, IfSome};
-ghost use Rattle.ipx_router.specs.Classify.{concern_of, concern_on_network, is_from_neighbour};
+ghost use Rattle.ipx_router.specs.Classify.{class_of, class_on_network, is_from_neighbour};
 ghost use Rattle.ipx_source_checks.specs.SourceChecks.{FailsAt, FailsCheck, FailsCheckAt, is_control, is_forwarded_control, is_group_or_zero, is_group_source, is_looped_source};
 
 use ipx_metrics::LastDrop;
@@ -47,7 +47,7 @@ fn comes_from_neighbour(at: Port, header: &IpxHeader) -> bool
 
 /// Whether a packet for the local network is RIP or SAP for the router.
 fn is_control_on_network(at: Port, header: &IpxHeader) -> bool
-    ensures { result ≡ is_control (concern_on_network at header.now) }
+    ensures { result ≡ is_control (class_on_network at header.now) }
 {
     let is_service = header.to.socket == Socket::RIP || header.to.socket == Socket::SAP;
     is_service && comes_from_neighbour(at, header)
@@ -55,7 +55,7 @@ fn is_control_on_network(at: Port, header: &IpxHeader) -> bool
 
 /// Whether a packet that came to a port is RIP or SAP for the router.
 fn is_control(at: Port, header: &IpxHeader) -> bool
-    ensures { result ≡ is_control (concern_of at header.now) }
+    ensures { result ≡ is_control (class_of at header.now) }
 {
     if header.kind == packet_type::NETBIOS_PROPAGATION {
         return false;

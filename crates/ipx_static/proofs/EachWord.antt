@@ -15,7 +15,7 @@ use Rattle.ipx_router.specs.OutcomeView.{OutcomeView}
 use Rattle.ipx_router.specs.RouterPackets.{AreCutOf, IsRipPacket, IsSapPacket, SendingView}
 use Rattle.ipx_router.specs.RouterView.{RouterView}
 use Rattle.ipx_static.specs.declared.neighbour.StaticNeighbour.{StaticNeighbour}
-use Rattle.ipx_static.specs.StaticAdvertisements.{AreWords, AreWordsOf, heard_on}
+use Rattle.ipx_static.specs.StaticAdvertisements.{AreAdvertisementsOf, AreStaticAdvertisements, heard_on}
 use Rattle.ipx_static.specs.StaticOffers.{IsAnotherNode, static_source}
 use Rattle.ipx_static.proofs.OneKey.{back_list, front_list, later, split_list}
 
@@ -113,14 +113,14 @@ module _ {E : Type 0} (e : E) (n : StaticNeighbour) (ports : List Port) (now : �
     abbrev pub Among : Type 0
     Among = Contains (f n.routes.items) e ⊎ Contains (g n.services.items) e
 
-    words_keep : (P : RouterView → Type 0) → Keeps P → (m : StaticNeighbour) → IsAnotherNode ports m → (ws : List SendingView) (old new : RouterView) → old.ports ≡ ports → AreWords m ws → ReceivesEach IsSo now ws old new
+    words_keep : (P : RouterView → Type 0) → Keeps P → (m : StaticNeighbour) → IsAnotherNode ports m → (ws : List SendingView) (old new : RouterView) → old.ports ≡ ports → AreAdvertisementsOf m ws → ReceivesEach IsSo now ws old new
         → AllAgrees m → P old → P new
     words_keep P keeps m other ws old new same are h agree has =
         let two = in_two IsSo now are.0 are.1 old new (subst (λ (xs : List SendingView). ReceivesEach IsSo now xs old new) are.2 h) in
         cut_keeps g of_services 7 (IsSap m) (static_source m) (sap_effect m other) P keeps are.1 m.services.items two.0 new (ports_stay IsSo now are.0 old two.0 two.1 ∙ same) are.4 two.2 agree.1
         (cut_keeps f of_routes 50 (IsRip m) (static_source m) (rip_effect m other) P keeps are.0 m.routes.items old two.0 same are.3 two.1 agree.0 has)
 
-    words_make : IsAnotherNode ports n → (ws : List SendingView) (old new : RouterView) → old.ports ≡ ports → AreWords n ws → ReceivesEach IsSo now ws old new
+    words_make : IsAnotherNode ports n → (ws : List SendingView) (old new : RouterView) → old.ports ≡ ports → AreAdvertisementsOf n ws → ReceivesEach IsSo now ws old new
         → AllAgrees n → Among → Before old → Has new
     words_make other ws old new same are h agree among before =
         let two = in_two IsSo now are.0 are.1 old new (subst (λ (xs : List SendingView). ReceivesEach IsSo now xs old new) are.2 h) in
@@ -134,7 +134,7 @@ module _ {E : Type 0} (e : E) (n : StaticNeighbour) (ports : List Port) (now : �
               (cut_keeps f of_routes 50 (IsRip n) (static_source n) (rip_effect n other) Before keep_before are.0 n.routes.items old two.0 same are.3 two.1 agree.0 before)
         ]
 
-    all_keep : (ns : List StaticNeighbour) → All (IsAnotherNode ports) ns → (ws : List SendingView) (old new : RouterView) → old.ports ≡ ports → AreWordsOf ns ws → ReceivesEach IsSo now ws old new
+    all_keep : (ns : List StaticNeighbour) → All (IsAnotherNode ports) ns → (ws : List SendingView) (old new : RouterView) → old.ports ≡ ports → AreStaticAdvertisements ns ws → ReceivesEach IsSo now ws old new
         → ((m : StaticNeighbour) → Contains ns m → AllAgrees m) → Has old → Has new
     all_keep [] others ws old new same none h agree has =
         subst Has (sym (subst (λ (xs : List SendingView). ReceivesEach IsSo now xs old new) none h)) has
@@ -143,13 +143,13 @@ module _ {E : Type 0} (e : E) (n : StaticNeighbour) (ports : List Port) (now : �
         all_keep ns (All-tail (IsAnotherNode ports) m ns others) are.1 two.0 new (ports_stay IsSo now are.0 old two.0 two.1 ∙ same) are.4 two.2 (λ k there. agree k (later m k ns there))
         (words_keep Has keep m (All-head (IsAnotherNode ports) m ns others) are.0 old two.0 same are.3 two.1 (agree m (0, omega arith, refl)) has)
 
-    pub all_make : (ns : List StaticNeighbour) → All (IsAnotherNode ports) ns → (ws : List SendingView) (old new : RouterView) → old.ports ≡ ports → AreWordsOf ns ws → ReceivesEach IsSo now ws old new
+    pub all_make : (ns : List StaticNeighbour) → All (IsAnotherNode ports) ns → (ws : List SendingView) (old new : RouterView) → old.ports ≡ ports → AreStaticAdvertisements ns ws → ReceivesEach IsSo now ws old new
         → ((m : StaticNeighbour) → Contains ns m → AllAgrees m) → Contains ns n → Among → Before old → Has new
     all_make [] others ws old new same are h agree there among before = absurd (omega (arith, there.1))
     all_make (m ∷ ns) others ws old new same are h agree (zero, within, at) among before =
         let two = in_two IsSo now are.0 are.1 old new (subst (λ (xs : List SendingView). ReceivesEach IsSo now xs old new) are.2 h) in
         all_keep ns (All-tail (IsAnotherNode ports) m ns others) are.1 two.0 new (ports_stay IsSo now are.0 old two.0 two.1 ∙ same) are.4 two.2 (λ k there. agree k (later m k ns there))
-        (words_make (subst (IsAnotherNode ports) at (All-head (IsAnotherNode ports) m ns others)) are.0 old two.0 same (subst (λ (k : StaticNeighbour). AreWords k are.0) at are.3) two.1 (agree n (0, omega arith, at)) among before)
+        (words_make (subst (IsAnotherNode ports) at (All-head (IsAnotherNode ports) m ns others)) are.0 old two.0 same (subst (λ (k : StaticNeighbour). AreAdvertisementsOf k are.0) at are.3) two.1 (agree n (0, omega arith, at)) among before)
     all_make (m ∷ ns) others ws old new same are h agree (suc k, within, at) among before =
         let two = in_two IsSo now are.0 are.1 old new (subst (λ (xs : List SendingView). ReceivesEach IsSo now xs old new) are.2 h) in
         all_make ns (All-tail (IsAnotherNode ports) m ns others) are.1 two.0 new (ports_stay IsSo now are.0 old two.0 two.1 ∙ same) are.4 two.2 (λ j there. agree j (later m j ns there))

@@ -8,13 +8,13 @@ use Rattle.ipx_control.specs.Rip as rip
 use Rattle.ipx_control.specs.Sap.{SapView, IsSap, sap_fault}
 use Rattle.ipx_control.specs.Sap as sap
 use Rattle.ipx_tables.specs.Content.{after_age}
-use Rattle.ipx_router.specs.declared.classify.Concern.{Concern}
-use Rattle.ipx_router.specs.declared.classify.Concern.TheVariants as concerns
+use Rattle.ipx_router.specs.declared.classify.PacketClass.{PacketClass}
+use Rattle.ipx_router.specs.declared.classify.PacketClass.TheVariants as classes
 use Rattle.ipx_router.specs.declared.port.Port.{Port}
 use Rattle.ipx_router.specs.declared.port.PortNow.{PortNow}
 use Rattle.ipx_router.specs.declared.reason.Reason.TheVariants.{Bad, BadControl}
-use Rattle.ipx_router.specs.Answer.{AnswersBytes, AnswersByConcern, AnswersPacket, AnswersRip, AnswersRipMessage, AnswersSap, AnswersSapMessage}
-use Rattle.ipx_router.specs.Classify.{concern_of}
+use Rattle.ipx_router.specs.Answer.{AnswersBytes, AnswersByClass, AnswersPacket, AnswersRip, AnswersRipMessage, AnswersSap, AnswersSapMessage}
+use Rattle.ipx_router.specs.Classify.{class_of}
 use Rattle.ipx_router.specs.Hearing.{after_routes, after_services, source_of}
 use Rattle.ipx_router.specs.Knowledge.{HoldsKnown, HoldsRoutes, HoldsServices, known_at, routes_in, services_in, tables}
 use Rattle.ipx_router.specs.OutcomeView.{OutcomeView, Forward, Replies, Heard, Dropped}
@@ -26,13 +26,13 @@ module _ (old new : RouterView) (port : ℕ) (bytes : List ℕ) (now : ℕ) (arr
 
   -- what is shown for each case of what bytes are
   abbrev Each : Type 0
-  Each = (d : PacketView) (tail : List ℕ) → IsIpx d bytes tail → (a : OutcomeView) (k : Concern) → AnswersByConcern (known_at old now) at d a (tables new) k → P
+  Each = (d : PacketView) (tail : List ℕ) → IsIpx d bytes tail → (a : OutcomeView) (k : PacketClass) → AnswersByClass (known_at old now) at d a (tables new) k → P
 
   by_bytes : (HoldsKnown (known_at old now) (tables new) → P) → Each → (a : OutcomeView) → AnswersBytes (known_at old now) at bytes a (tables new) → P
   by_bytes none each a h = go (ipx_fault bytes) h
     where
       go : (o : Option _) → MatchOption o (AnswersPacket (known_at old now) at bytes a (tables new)) (λ f. (a ≡ Dropped (Bad f)) × HoldsKnown (known_at old now) (tables new)) → P
-      go None h = each h.0 h.1 h.2 a (concern_of arrived h.0.header) h.3
+      go None h = each h.0 h.1 h.2 a (class_of arrived h.0.header) h.3
       go (Some f) h = none h.1
 
   module _ (none : HoldsRoutes new.routes (after_age (routes_in old.routes) now) → P)
@@ -54,10 +54,10 @@ module _ (old new : RouterView) (port : ℕ) (bytes : List ℕ) (now : ℕ) (arr
         go (Some f) h = none h.1
 
     of_routes : Each
-    of_routes d tail ipx a (concerns.Dropped reason) h = none h.1.routes
-    of_routes d tail ipx a concerns.Rip h = rip_body d tail ipx a h.0
-    of_routes d tail ipx a concerns.Sap h = none h.1
-    of_routes d tail ipx a concerns.Forward h = none h.1.routes
+    of_routes d tail ipx a (classes.Dropped reason) h = none h.1.routes
+    of_routes d tail ipx a classes.Rip h = rip_body d tail ipx a h.0
+    of_routes d tail ipx a classes.Sap h = none h.1
+    of_routes d tail ipx a classes.Forward h = none h.1.routes
 
     pub routes_by : (a : OutcomeView) → AnswersBytes (known_at old now) at bytes a (tables new) → P
     routes_by a h = by_bytes (λ known. none known.routes) of_routes a h
@@ -81,10 +81,10 @@ module _ (old new : RouterView) (port : ℕ) (bytes : List ℕ) (now : ℕ) (arr
         go (Some f) h = none h.1
 
     of_services : Each
-    of_services d tail ipx a (concerns.Dropped reason) h = none h.1.services
-    of_services d tail ipx a concerns.Rip h = none h.1
-    of_services d tail ipx a concerns.Sap h = sap_body d tail ipx a h.0
-    of_services d tail ipx a concerns.Forward h = none h.1.services
+    of_services d tail ipx a (classes.Dropped reason) h = none h.1.services
+    of_services d tail ipx a classes.Rip h = none h.1
+    of_services d tail ipx a classes.Sap h = sap_body d tail ipx a h.0
+    of_services d tail ipx a classes.Forward h = none h.1.services
 
     pub services_by : (a : OutcomeView) → AnswersBytes (known_at old now) at bytes a (tables new) → P
     services_by a h = by_bytes (λ known. none known.services) of_services a h

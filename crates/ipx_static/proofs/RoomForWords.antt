@@ -5,7 +5,7 @@ use Rattle.ipx_router.specs.declared.reason.Reason.TheVariants.{Bad, Propagated,
 use Rattle.ipx_router.specs.OutcomeView.{OutcomeView, Forward, Replies, Heard, Dropped}
 use Rattle.ipx_router.specs.RouterPackets.{SendingView}
 use Rattle.ipx_router.specs.RouterView.{RouterView}
-use Rattle.ipx_router.specs.Telling.{is_due}
+use Rattle.ipx_router.specs.Advertisements.{is_due}
 use Rattle.ipx_carrier.specs.declared.outcome_counters.OutcomeCounters.{OutcomeCounters}
 use Rattle.ipx_carrier.specs.Counting.{raised}
 use Rattle.ipx_carrier.specs.OutcomeCounters.{outcome_counted}
@@ -107,9 +107,9 @@ pub of_true : (P Q : Type 0) (b : Bool) → b ≡ true → MatchBool b P Q → P
 of_true P Q true e h = h
 of_true P Q false e h = cc
 
-pub heard_words : (old new : WithStaticsView PriorityCoreView) (now : ℕ) → is_due old.said now ≡ true → HearsIfDue PriorityHears old now new → HearsAdvertisements PriorityHears now old.advertisements old.core new.core
+pub heard_words : (old new : WithStaticsView PriorityCoreView) (now : ℕ) → is_due old.refreshed_at now ≡ true → HearsIfDue PriorityHears old now new → HearsAdvertisements PriorityHears now old.advertisements old.core new.core
 heard_words old new now due h =
-    (of_true (HearsAdvertisements PriorityHears now old.advertisements old.core new.core × (new ≡ record old { core = new.core; said = Some now })) (new ≡ old) (is_due old.said now) due h).0
+    (of_true (HearsAdvertisements PriorityHears now old.advertisements old.core new.core × (new ≡ record old { core = new.core; refreshed_at = Some now })) (new ≡ old) (is_due old.refreshed_at now) due h).0
 
 pub of_false : (P Q : Type 0) (b : Bool) → b ≡ false → MatchBool b P Q → Q
 of_false P Q true e h = cc

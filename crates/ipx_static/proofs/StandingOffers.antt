@@ -16,14 +16,14 @@ use Rattle.ipx_router.specs.declared.port.PortNow.{PortNow}
 use Rattle.ipx_router.specs.Hearing.{is_heard, route_metric, service_metric, source_of}
 use Rattle.ipx_router.specs.Knowledge.{routes_in, services_in}
 use Rattle.ipx_router.specs.RouterView.{RouterView}
-use Rattle.ipx_router.specs.Telling.{is_due}
-use Rattle.ipx_router.specs.Told.{key_of_service, route_key}
+use Rattle.ipx_router.specs.Advertisements.{is_due}
+use Rattle.ipx_router.specs.AdvertisedEntries.{key_of_service, route_key}
 use Rattle.ipx_carrier.specs.PriorityRouterCore.{PriorityCoreView, PriorityHears}
 use Rattle.ipx_static.specs.declared.neighbour.StaticNeighbour.{StaticNeighbour}
 use Rattle.ipx_static.specs.WithStatics.{WithStaticsView, HearsIfDue}
 use Rattle.ipx_static.specs.StaticOffers.{Counts, FindsSpace, HearsWithStatics, IsAnotherNode, IsAdvertisedAlone, StaticRoutesAreOffers, StaticRoutesAreRefreshed, StaticServicesAreOffers, StaticServicesAreRefreshed, static_source}
 use Rattle.ipx_static.specs.StaticRuns.{DependsOn, IsAskedEachMinute, OffersItself, RunsWithStatics, StaticCallAt, StaticRoutesHold, StaticServicesHold, TellsItself, asked_in}
-use Rattle.ipx_static.specs.StaticAdvertisements.{AreWordsOf}
+use Rattle.ipx_static.specs.StaticAdvertisements.{AreStaticAdvertisements}
 use Rattle.ipx_static.proofs.OneKey.{front_list, leaves}
 use Rattle.ipx_static.proofs.QuietPackets.{routes_by, services_by}
 use Rattle.ipx_static.proofs.StandingRuns.{AnyRoom, any_of_each, room_of_each, same_or_not, whole_run}
@@ -53,22 +53,22 @@ module _ (law : StaticRoutesAreOffers) (again : StaticRoutesAreRefreshed) (apart
   abbrev Quiet_routes : ℕ → List ℕ → Type 0
   Quiet_routes port bytes = (x : RipEntry) → Contains n.routes.items x → DependsOn old new e x → TellsItself n x.network port bytes → ⊥
 
-  hears_routes : (v w : WithStaticsView PriorityCoreView) (now : ℕ) → v.core.router.ports ≡ old.core.router.ports → v.advertisements ≡ old.advertisements → is_due v.said now ≡ true → HearsIfDue PriorityHears v now w → HearsWithStatics ns now v w
+  hears_routes : (v w : WithStaticsView PriorityCoreView) (now : ℕ) → v.core.router.ports ≡ old.core.router.ports → v.advertisements ≡ old.advertisements → is_due v.refreshed_at now ≡ true → HearsIfDue PriorityHears v now w → HearsWithStatics ns now v w
   hears_routes v w now same_ports same_words due heard = record {
-    advertisements = subst (AreWordsOf ns) (sym same_words) run.advertisements;
+    advertisements = subst (AreStaticAdvertisements ns) (sym same_words) run.advertisements;
     others = subst (λ (ps : List Port). All (IsAnotherNode ps) ns) (sym same_ports) run.others;
     due = due;
     heard = heard;
   }
 
   -- if there is room, each of them is an offer after the advertisements are received
-  says_routes : (v w : WithStaticsView PriorityCoreView) (now : ℕ) → v.core.router.ports ≡ old.core.router.ports → v.advertisements ≡ old.advertisements → is_due v.said now ≡ true → HearsIfDue PriorityHears v now w
+  says_routes : (v w : WithStaticsView PriorityCoreView) (now : ℕ) → v.core.router.ports ≡ old.core.router.ports → v.advertisements ≡ old.advertisements → is_due v.refreshed_at now ≡ true → HearsIfDue PriorityHears v now w
       → FindsSpace v.core w.core → (i : Needed_routes) → value_of_routes i w.core.router ≡ Some (metric_of_routes i, now)
   says_routes v w now same_ports same_words due heard room i =
       law ns now v w (hears_routes v w now same_ports same_words due heard) room n there i.entry i.among (alone i.entry i.among i.needed) (subst (λ (ps : List Port). is_heard ps i.entry ≡ true) (sym same_ports) i.heard) i.near
 
   -- and if all of them count, for any room
-  says_again_routes : (new.core.outcomes.table_full ≢ old.core.outcomes.table_full) → (v w : WithStaticsView PriorityCoreView) (now : ℕ) → v.core.router.ports ≡ old.core.router.ports → v.advertisements ≡ old.advertisements → is_due v.said now ≡ true → HearsIfDue PriorityHears v now w
+  says_again_routes : (new.core.outcomes.table_full ≢ old.core.outcomes.table_full) → (v w : WithStaticsView PriorityCoreView) (now : ℕ) → v.core.router.ports ≡ old.core.router.ports → v.advertisements ≡ old.advertisements → is_due v.refreshed_at now ≡ true → HearsIfDue PriorityHears v now w
       → ((i : Needed_routes) → Counts (metric_of_routes i) now (value_of_routes i v.core.router)) → (i : Needed_routes) → value_of_routes i w.core.router ≡ Some (metric_of_routes i, now)
   says_again_routes filled v w now same_ports same_words due heard stand i =
       again ns now v w (hears_routes v w now same_ports same_words due heard) n there (λ x m. alone x m (inr filled))
@@ -126,22 +126,22 @@ module _ (law : StaticServicesAreOffers) (again : StaticServicesAreRefreshed) (a
   abbrev Quiet_services : ℕ → List ℕ → Type 0
   Quiet_services port bytes = (x : ServiceEntry) → Contains n.services.items x → DependsOn old new e x → OffersItself n (key_of_service x) port bytes → ⊥
 
-  hears_services : (v w : WithStaticsView PriorityCoreView) (now : ℕ) → v.core.router.ports ≡ old.core.router.ports → v.advertisements ≡ old.advertisements → is_due v.said now ≡ true → HearsIfDue PriorityHears v now w → HearsWithStatics ns now v w
+  hears_services : (v w : WithStaticsView PriorityCoreView) (now : ℕ) → v.core.router.ports ≡ old.core.router.ports → v.advertisements ≡ old.advertisements → is_due v.refreshed_at now ≡ true → HearsIfDue PriorityHears v now w → HearsWithStatics ns now v w
   hears_services v w now same_ports same_words due heard = record {
-    advertisements = subst (AreWordsOf ns) (sym same_words) run.advertisements;
+    advertisements = subst (AreStaticAdvertisements ns) (sym same_words) run.advertisements;
     others = subst (λ (ps : List Port). All (IsAnotherNode ps) ns) (sym same_ports) run.others;
     due = due;
     heard = heard;
   }
 
   -- if there is room, each of them is an offer after the advertisements are received
-  says_services : (v w : WithStaticsView PriorityCoreView) (now : ℕ) → v.core.router.ports ≡ old.core.router.ports → v.advertisements ≡ old.advertisements → is_due v.said now ≡ true → HearsIfDue PriorityHears v now w
+  says_services : (v w : WithStaticsView PriorityCoreView) (now : ℕ) → v.core.router.ports ≡ old.core.router.ports → v.advertisements ≡ old.advertisements → is_due v.refreshed_at now ≡ true → HearsIfDue PriorityHears v now w
       → FindsSpace v.core w.core → (i : Needed_services) → value_of_services i w.core.router ≡ Some (metric_of_services i, now)
   says_services v w now same_ports same_words due heard room i =
       law ns now v w (hears_services v w now same_ports same_words due heard) room n there i.entry i.among (alone i.entry i.among i.needed) i.near
 
   -- and if all of them count, for any room
-  says_again_services : (new.core.outcomes.table_full ≢ old.core.outcomes.table_full) → (v w : WithStaticsView PriorityCoreView) (now : ℕ) → v.core.router.ports ≡ old.core.router.ports → v.advertisements ≡ old.advertisements → is_due v.said now ≡ true → HearsIfDue PriorityHears v now w
+  says_again_services : (new.core.outcomes.table_full ≢ old.core.outcomes.table_full) → (v w : WithStaticsView PriorityCoreView) (now : ℕ) → v.core.router.ports ≡ old.core.router.ports → v.advertisements ≡ old.advertisements → is_due v.refreshed_at now ≡ true → HearsIfDue PriorityHears v now w
       → ((i : Needed_services) → Counts (metric_of_services i) now (value_of_services i v.core.router)) → (i : Needed_services) → value_of_services i w.core.router ≡ Some (metric_of_services i, now)
   says_again_services filled v w now same_ports same_words due heard stand i =
       again ns now v w (hears_services v w now same_ports same_words due heard) n there (λ x m. alone x m (inr filled))

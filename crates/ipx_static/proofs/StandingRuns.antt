@@ -8,7 +8,7 @@ use Rattle.ipx_router.specs.Answer.{Receives}
 use Rattle.ipx_router.specs.OutcomeView.{OutcomeView}
 use Rattle.ipx_router.specs.RouterPackets.{SendingView}
 use Rattle.ipx_router.specs.RouterView.{RouterView}
-use Rattle.ipx_router.specs.Telling.{is_due}
+use Rattle.ipx_router.specs.Advertisements.{is_due}
 use Rattle.ipx_carrier.specs.RouterQueues.{TellsNow}
 use Rattle.ipx_carrier.specs.PriorityRouterCore.{PriorityCoreView, PriorityGives, PriorityHears}
 use Rattle.ipx_carrier.specs.Turns.{Given}
@@ -35,12 +35,12 @@ gives_full : (old new : PriorityCoreView) (now : ℕ) (given : Option Given) →
 gives_full old new now given h = ap full h.2.1 ∙ ap full h.1.5
 
 due_full : (old new : WithStaticsView PriorityCoreView) (now : ℕ) → HearsIfDue PriorityHears old now new → full old.core < 2 ^ 64 → (full old.core ≤ full new.core) × (full new.core < 2 ^ 64)
-due_full old new now h less = elim (bool_cases (is_due old.said now)) [
+due_full old new now h less = elim (bool_cases (is_due old.refreshed_at now)) [
   | inl due ↦
-      let said = of_true (HearsAdvertisements PriorityHears now old.advertisements old.core new.core × (new ≡ record old { core = new.core; said = Some now })) (new ≡ old) (is_due old.said now) due h in
+      let said = of_true (HearsAdvertisements PriorityHears now old.advertisements old.core new.core × (new ≡ record old { core = new.core; refreshed_at = Some now })) (new ≡ old) (is_due old.refreshed_at now) due h in
       all_on now old.advertisements old.core new.core said.0 less
   | inr not_due ↦
-      let is = of_false (HearsAdvertisements PriorityHears now old.advertisements old.core new.core × (new ≡ record old { core = new.core; said = Some now })) (new ≡ old) (is_due old.said now) not_due h in
+      let is = of_false (HearsAdvertisements PriorityHears now old.advertisements old.core new.core × (new ≡ record old { core = new.core; refreshed_at = Some now })) (new ≡ old) (is_due old.refreshed_at now) not_due h in
       let same = ap (λ (v : WithStaticsView PriorityCoreView). full v.core) is in
       (omega (arith, same), omega (arith, same, less))
 ]
@@ -112,7 +112,7 @@ module _ {M I : Type 0} (metric : I → M) (ports : List Port) (advertisements :
     (receives : (i : I) (old new : RouterView) (port : ℕ) (bytes : List ℕ) (now : ℕ) (a : OutcomeView) → IsSuch port bytes → Receives old (port + 1) bytes now a new → value i new ≡ still now (value i old))
     (tells : (i : I) (old new : RouterView) (now : ℕ) (told : List SendingView) → TellsNow old now told new → value i new ≡ still now (value i old))
     (Room : PriorityCoreView → PriorityCoreView → Type 0) (each_room : IsOfEach Room)
-    (says : (old new : WithStaticsView PriorityCoreView) (now : ℕ) → old.core.router.ports ≡ ports → old.advertisements ≡ advertisements → is_due old.said now ≡ true → HearsIfDue PriorityHears old now new
+    (says : (old new : WithStaticsView PriorityCoreView) (now : ℕ) → old.core.router.ports ≡ ports → old.advertisements ≡ advertisements → is_due old.refreshed_at now ≡ true → HearsIfDue PriorityHears old now new
     → Room old.core new.core → ((i : I) → Counts (metric i) now (value i old.core.router)) → (i : I) → value i new.core.router ≡ Some (metric i, now)) where
   -- one was learned since the advertisements last came
   abbrev IsPresent : ℕ → I → RouterView → Type 0
@@ -121,7 +121,7 @@ module _ {M I : Type 0} (metric : I → M) (ports : List Port) (advertisements :
   -- and so was each, which is under a minute before the core was last asked
   pub record Stays (v : WithStaticsView PriorityCoreView) (asked : ℕ) : Type 0 where
     pub last : ℕ
-    pub is_last : v.said ≡ Some last
+    pub is_last : v.refreshed_at ≡ Some last
     pub lately : asked - last < 60000
     pub stands : (i : I) → IsPresent last i v.core.router
     pub same_ports : v.core.router.ports ≡ ports
@@ -144,7 +144,7 @@ module _ {M I : Type 0} (metric : I → M) (ports : List Port) (advertisements :
       let router = gives_router v.core mid.core now given h in
       record {
         last = s.last;
-        is_last = ap (λ (v : WithStaticsView PriorityCoreView). v.said) is ∙ s.is_last;
+        is_last = ap (λ (v : WithStaticsView PriorityCoreView). v.refreshed_at) is ∙ s.is_last;
         lately = s.lately;
         stands = λ i.
             let st = s.stands i in
@@ -155,14 +155,14 @@ module _ {M I : Type 0} (metric : I → M) (ports : List Port) (advertisements :
       }
 
   -- asked as advertisements are due
-  asked_due : (v mid : WithStaticsView PriorityCoreView) (now : ℕ) (given : Option Given) → v.core.router.ports ≡ ports → v.advertisements ≡ advertisements → is_due v.said now ≡ true
+  asked_due : (v mid : WithStaticsView PriorityCoreView) (now : ℕ) (given : Option Given) → v.core.router.ports ≡ ports → v.advertisements ≡ advertisements → is_due v.refreshed_at now ≡ true
       → (h : GivesWithStatics PriorityHears PriorityGives v now given mid) → ((i : I) → value i h.0.core.router ≡ Some (metric i, now)) → Stays mid now
   asked_due v mid now given same_ports same_words due h spoken =
       let heard = h.0 in
-      let said = of_true (HearsAdvertisements PriorityHears now v.advertisements v.core heard.core × (heard ≡ record v { core = heard.core; said = Some now })) (heard ≡ v) (is_due v.said now) due h.1 in
+      let said = of_true (HearsAdvertisements PriorityHears now v.advertisements v.core heard.core × (heard ≡ record v { core = heard.core; refreshed_at = Some now })) (heard ≡ v) (is_due v.refreshed_at now) due h.1 in
       let s : Stays heard now = record {
         last = now;
-        is_last = ap (λ (v : WithStaticsView PriorityCoreView). v.said) said.1;
+        is_last = ap (λ (v : WithStaticsView PriorityCoreView). v.refreshed_at) said.1;
         lately = omega arith;
         stands = λ i. (now, omega arith, spoken i);
         same_ports = words_ports now v.advertisements v.core heard.core said.0 ∙ same_ports;
@@ -174,11 +174,11 @@ module _ {M I : Type 0} (metric : I → M) (ports : List Port) (advertisements :
   under_a_minute now last h = omega (arith, leb-false 60000 (now - last) h)
 
   -- asked as none are due
-  asked_early : (v mid : WithStaticsView PriorityCoreView) (asked now : ℕ) (given : Option Given) → Stays v asked → is_due v.said now ≡ false
+  asked_early : (v mid : WithStaticsView PriorityCoreView) (asked now : ℕ) (given : Option Given) → Stays v asked → is_due v.refreshed_at now ≡ false
       → GivesWithStatics PriorityHears PriorityGives v now given mid → Stays mid now
   asked_early v mid asked now given s not_due h =
       let heard = h.0 in
-      let is = of_false (HearsAdvertisements PriorityHears now v.advertisements v.core heard.core × (heard ≡ record v { core = heard.core; said = Some now })) (heard ≡ v) (is_due v.said now) not_due h.1 in
+      let is = of_false (HearsAdvertisements PriorityHears now v.advertisements v.core heard.core × (heard ≡ record v { core = heard.core; refreshed_at = Some now })) (heard ≡ v) (is_due v.refreshed_at now) not_due h.1 in
       let here : Stays v now = record {
         last = s.last;
         is_last = s.is_last;
@@ -195,7 +195,7 @@ module _ {M I : Type 0} (metric : I → M) (ports : List Port) (advertisements :
       let router = heard_router v.core mid.core port bytes now h.0 in
       record {
         last = s.last;
-        is_last = ap (λ (v : WithStaticsView PriorityCoreView). v.said) h.1 ∙ s.is_last;
+        is_last = ap (λ (v : WithStaticsView PriorityCoreView). v.refreshed_at) h.1 ∙ s.is_last;
         lately = s.lately;
         stands = λ i.
             let st = s.stands i in
@@ -209,7 +209,7 @@ module _ {M I : Type 0} (metric : I → M) (ports : List Port) (advertisements :
   asks_on : (v mid : WithStaticsView PriorityCoreView) (asked : ℕ) → Stays v asked → mid ≡ record v { core = record v.core { started = false } } → Stays mid asked
   asks_on v mid asked s is = record {
     last = s.last;
-    is_last = ap (λ (v : WithStaticsView PriorityCoreView). v.said) is ∙ s.is_last;
+    is_last = ap (λ (v : WithStaticsView PriorityCoreView). v.refreshed_at) is ∙ s.is_last;
     lately = s.lately;
     stands = λ i. let st = s.stands i in (st.0, st.1, ap (λ (v : WithStaticsView PriorityCoreView). value i v.core.router) is ∙ st.2);
     same_ports = ap (λ (v : WithStaticsView PriorityCoreView). v.core.router.ports) is ∙ s.same_ports;
@@ -219,7 +219,7 @@ module _ {M I : Type 0} (metric : I → M) (ports : List Port) (advertisements :
   one_call : (now : ℕ) (c : StaticCall) (v mid : WithStaticsView PriorityCoreView) (asked : ℕ) → Stays v asked → now ≤ asked + 60000 → ComesAs IsSuch c → DoesStaticCall now c v mid
       → Room v.core mid.core → Stays mid (asked_by now c asked)
   one_call now (Comes port bytes) v mid asked s within such h room = comes_in v mid asked now port bytes s within such h
-  one_call now (Asked given) v mid asked s within such h room = elim (bool_cases (is_due v.said now)) [
+  one_call now (Asked given) v mid asked s within such h room = elim (bool_cases (is_due v.refreshed_at now)) [
     | inl due ↦ asked_due v mid now given s.same_ports s.same_words due h
         (says v h.0 now s.same_ports s.same_words due h.1 (each_room.words v mid now given h room) (counts v asked now s within))
     | inr not_due ↦ asked_early v mid asked now given s not_due h
@@ -236,7 +236,7 @@ module _ {M I : Type 0} (metric : I → M) (ports : List Port) (advertisements :
       (each_room.later c.moment c.call cs v mid new h.1 h.2 room)
 
   -- from the time that the core is asked as advertisements are due
-  pub whole_run : (start : ℕ) (given : Option Given) (cs : List StaticCallAt) (old first new : WithStaticsView PriorityCoreView) → old.core.router.ports ≡ ports → old.advertisements ≡ advertisements → is_due old.said start ≡ true
+  pub whole_run : (start : ℕ) (given : Option Given) (cs : List StaticCallAt) (old first new : WithStaticsView PriorityCoreView) → old.core.router.ports ≡ ports → old.advertisements ≡ advertisements → is_due old.refreshed_at start ≡ true
       → (begins : GivesWithStatics PriorityHears PriorityGives old start given first) → ((i : I) → value i begins.0.core.router ≡ Some (metric i, start)) → DoStaticCalls cs first new → Room first.core new.core → IsAskedEachMinute IsSuch cs start
       → (now : ℕ) → now ≤ asked_in cs start + 60000 → (i : I) → Counts (metric i) now (value i new.core.router)
   whole_run start given cs old first new same_ports same_words due begins spoken goes_on room each now within i =

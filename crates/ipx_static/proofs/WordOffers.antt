@@ -26,21 +26,21 @@ use Rattle.ipx_tables.specs.declared.source.Source.{Source}
 use Rattle.ipx_tables.specs.Content.{Table, after_age, source_cmp}
 use Rattle.ipx_tables.specs.Route.{network_cmp, network_exact, route_dead}
 use Rattle.ipx_tables.specs.Service.{service_dead, service_key_cmp, service_key_exact}
-use Rattle.ipx_router.specs.declared.classify.Concern.{Concern}
-use Rattle.ipx_router.specs.declared.classify.Concern.TheVariants as concerns
+use Rattle.ipx_router.specs.declared.classify.PacketClass.{PacketClass}
+use Rattle.ipx_router.specs.declared.classify.PacketClass.TheVariants as classes
 use Rattle.ipx_router.specs.declared.port.Port.{Port}
 use Rattle.ipx_router.specs.declared.port.PortNow.{PortNow}
 use Rattle.ipx_router.specs.declared.reason.Reason.TheVariants.{Bad, BadControl, TableFull}
-use Rattle.ipx_router.specs.Answer.{AnswersByConcern, AnswersBytes, AnswersPacket, AnswersRipMessage, AnswersSapMessage, HearsRoutes, HearsServices, Receives}
-use Rattle.ipx_router.specs.Classify.{concern_of, is_node}
+use Rattle.ipx_router.specs.Answer.{AnswersByClass, AnswersBytes, AnswersPacket, AnswersRipMessage, AnswersSapMessage, HearsRoutes, HearsServices, Receives}
+use Rattle.ipx_router.specs.Classify.{class_of, is_node}
 use Rattle.ipx_router.specs.Hearing.{AtEntry, IsFullForRoute, IsFullForService, after_routes, after_services, is_heard, route_metric, service_metric}
 use Rattle.ipx_router.specs.Knowledge.{HoldsKnown, HoldsRoutes, HoldsServices, Routes, Services, known_at, routes_in, services_in, tables}
 use Rattle.ipx_router.specs.OutcomeView.{OutcomeView, Forward, Replies, Heard, Dropped}
 use Rattle.ipx_router.specs.Ports.{IsPort}
 use Rattle.ipx_router.specs.RouterPackets.{IsRipPacket, IsSapPacket, SendingView, own_header}
 use Rattle.ipx_router.specs.RouterView.{RouterView}
-use Rattle.ipx_router.specs.Told.{key_of_service, route_key}
-use Rattle.ipx_static.specs.StaticAdvertisements.{AreWordsOf, heard_on}
+use Rattle.ipx_router.specs.AdvertisedEntries.{key_of_service, route_key}
+use Rattle.ipx_static.specs.StaticAdvertisements.{AreStaticAdvertisements, heard_on}
 use Rattle.ipx_static.specs.declared.neighbour.StaticNeighbour.{StaticNeighbour}
 use Rattle.ipx_static.specs.StaticOffers.{Counts, IsAnotherNode, IsAdvertisedAlone, static_source}
 use Rattle.ipx_static.proofs.OneKey.{AgreeWith, Agrees, AllStand, Has, Hears, all_stand_on, front_list, keeps_offer, makes_offer, never_unknown, there_in}
@@ -102,10 +102,10 @@ TakesServices source now services part a new = HoldsServices new (after_services
     ⊎ ((a ≡ Dropped TableFull) × (k : ℕ) × HoldsServices new (after_services source now services (take k part)) × AtEntry part k (IsFullForService source new))
 
 module _ (one_ipx : OneIpx) (no_ipx_fault : NoIpxFault) (number : ℕ) (node : Node) (near : Port) (apart : node ≢ near.node) (now : ℕ) where
-  rip_is : concern_of near (own_header (heard_on number node rip_socket) rip_type rip_socket) ≡ concerns.Rip
+  rip_is : class_of near (own_header (heard_on number node rip_socket) rip_type rip_socket) ≡ classes.Rip
   rip_is = simp (not_node node near.node apart, or-true) refl
 
-  sap_is : concern_of near (own_header (heard_on number node sap_socket) packet_exchange_type sap_socket) ≡ concerns.Sap
+  sap_is : class_of near (own_header (heard_on number node sap_socket) packet_exchange_type sap_socket) ≡ classes.Sap
   sap_is = simp (not_node node near.node apart, or-true) refl
 
   abbrev source : Source
@@ -117,17 +117,17 @@ module _ (one_ipx : OneIpx) (no_ipx_fault : NoIpxFault) (number : ℕ) (node : N
   abbrev packet_of : ℕ → ℕ → List ℕ → PacketView
   packet_of kind socket body = record { header = own_header (heard_on number node socket) kind socket; body = body }
 
-  by_concern : (old : RouterView) (kind socket : ℕ) (body bytes : List ℕ) (a : OutcomeView) (new : RouterView) (k : Concern)
-      → concern_of near (own_header (heard_on number node socket) kind socket) ≡ k → IsIpx (packet_of kind socket body) bytes []
-      → IsPort old.ports number near → Receives old number bytes now a new → AnswersByConcern (known_at old now) at (packet_of kind socket body) a (tables new) k
-  by_concern old kind socket body bytes a new k concern is at_near h =
+  by_class : (old : RouterView) (kind socket : ℕ) (body bytes : List ℕ) (a : OutcomeView) (new : RouterView) (k : PacketClass)
+      → class_of near (own_header (heard_on number node socket) kind socket) ≡ k → IsIpx (packet_of kind socket body) bytes []
+      → IsPort old.ports number near → Receives old number bytes now a new → AnswersByClass (known_at old now) at (packet_of kind socket body) a (tables new) k
+  by_class old kind socket body bytes a new k packet_class is at_near h =
       let d = packet_of kind socket body in
       let arrived : h.answers.0 ≡ near = some_same h.answers.0 near (sym h.answers.1.1 ∙ at_near.1) in
       let here : AnswersBytes (known_at old now) at bytes a (tables new) = subst (λ (port : Port). AnswersBytes (known_at old now) (record { number = number; port = port; now = now }) bytes a (tables new)) arrived h.answers.2 in
       let read = of_none (AnswersPacket (known_at old now) at bytes a (tables new)) (λ f. (a ≡ Dropped (Bad f)) × HoldsKnown (known_at old now) (tables new)) (ipx_fault bytes) (no_ipx_fault d bytes [] is) here in
       let same : read.0 ≡ d = (one_ipx read.0 d bytes read.1 [] read.2 is).0 in
-      subst (λ c. AnswersByConcern (known_at old now) at d a (tables new) c) concern
-      (subst (λ (e : PacketView). AnswersByConcern (known_at old now) at e a (tables new) (concern_of near e.header)) same read.3)
+      subst (λ c. AnswersByClass (known_at old now) at d a (tables new) c) packet_class
+      (subst (λ (e : PacketView). AnswersByClass (known_at old now) at e a (tables new) (class_of near e.header)) same read.3)
 
   -- the first of the entries are learned: all of them, if the table had room
   routes_part : (ports : List Port) (routes : Routes) (part : List RipEntry) (a : OutcomeView) (new : Table Network RouteMetric) → HearsRoutes ports routes source now part a new → TakesRoutes source now ports routes part a new
@@ -150,7 +150,7 @@ module _ (one_ipx : OneIpx) (no_ipx_fault : NoIpxFault) (number : ℕ) (node : N
       let own : IsRipPacket (heard_on number node rip_socket) (rip.Response part) s = is in
       let d = packet_of rip_type rip_socket own.body in
       let routes = after_age (routes_in old.routes) now in
-      let answers : AnswersByConcern (known_at old now) at d a (tables new) concerns.Rip = by_concern old rip_type rip_socket own.body s.bytes a new concerns.Rip rip_is own.packet.packet at_near h in
+      let answers : AnswersByClass (known_at old now) at d a (tables new) classes.Rip = by_class old rip_type rip_socket own.body s.bytes a new classes.Rip rip_is own.packet.packet at_near h in
       let read = of_none ((m : RipView) × (tail : List ℕ) × IsRip m own.body tail × AnswersRipMessage old.ports routes at d.header m a new.routes) (λ f. (a ≡ Dropped (BadControl f)) × HoldsRoutes new.routes routes) (rip_fault own.body) (no_fault (rip.Response part) own.body [] own.says) answers.0 in
       let same : read.0 ≡ rip.Response part = (one_rip read.0 (rip.Response part) own.body read.1 [] read.2 own.says).0 in
       routes_part old.ports routes part a new.routes (subst (λ m. AnswersRipMessage old.ports routes at d.header m a new.routes) same read.3)
@@ -163,7 +163,7 @@ module _ (one_ipx : OneIpx) (no_ipx_fault : NoIpxFault) (number : ℕ) (node : N
       let own : IsSapPacket (heard_on number node sap_socket) (sap.Response false part) s = is in
       let d = packet_of packet_exchange_type sap_socket own.body in
       let services = after_age (services_in old.services) now in
-      let answers : AnswersByConcern (known_at old now) at d a (tables new) concerns.Sap = by_concern old packet_exchange_type sap_socket own.body s.bytes a new concerns.Sap sap_is own.packet.packet at_near h in
+      let answers : AnswersByClass (known_at old now) at d a (tables new) classes.Sap = by_class old packet_exchange_type sap_socket own.body s.bytes a new classes.Sap sap_is own.packet.packet at_near h in
       let read = of_none ((m : SapView) × (tail : List ℕ) × IsSap m own.body tail × AnswersSapMessage services at d.header m a new.services) (λ f. (a ≡ Dropped (BadControl f)) × HoldsServices new.services services) (sap_fault own.body) (no_fault (sap.Response false part) own.body [] own.says) answers.0 in
       let same : read.0 ≡ sap.Response false part = (one_sap read.0 (sap.Response false part) own.body read.1 [] read.2 own.says).0 in
       services_part services part a new.services (subst (λ m. AnswersSapMessage services at d.header m a new.services) same read.3)
@@ -174,7 +174,7 @@ module _ (one_ipx : OneIpx) (no_ipx_fault : NoIpxFault) (number : ℕ) (node : N
       → (x : ServiceKey × Source) → services_in new.services x ≡ after_age (services_in old.services) now x
   rip_leaves old part s a new is at_near h =
       let own : IsRipPacket (heard_on number node rip_socket) (rip.Response part) s = is in
-      let answers : AnswersByConcern (known_at old now) at (packet_of rip_type rip_socket own.body) a (tables new) concerns.Rip = by_concern old rip_type rip_socket own.body s.bytes a new concerns.Rip rip_is own.packet.packet at_near h in
+      let answers : AnswersByClass (known_at old now) at (packet_of rip_type rip_socket own.body) a (tables new) classes.Rip = by_class old rip_type rip_socket own.body s.bytes a new classes.Rip rip_is own.packet.packet at_near h in
       answers.1
 
   sap_leaves : (old : RouterView) (part : List ServiceEntry) (s : SendingView) (a : OutcomeView) (new : RouterView) → IsSapPacket (heard_on number node sap_socket) (sap.Response false part) s
@@ -182,7 +182,7 @@ module _ (one_ipx : OneIpx) (no_ipx_fault : NoIpxFault) (number : ℕ) (node : N
       → (x : Network × Source) → routes_in new.routes x ≡ after_age (routes_in old.routes) now x
   sap_leaves old part s a new is at_near h =
       let own : IsSapPacket (heard_on number node sap_socket) (sap.Response false part) s = is in
-      let answers : AnswersByConcern (known_at old now) at (packet_of packet_exchange_type sap_socket own.body) a (tables new) concerns.Sap = by_concern old packet_exchange_type sap_socket own.body s.bytes a new concerns.Sap sap_is own.packet.packet at_near h in
+      let answers : AnswersByClass (known_at old now) at (packet_of packet_exchange_type sap_socket own.body) a (tables new) classes.Sap = by_class old packet_exchange_type sap_socket own.body s.bytes a new classes.Sap sap_is own.packet.packet at_near h in
       answers.1
 
 pub network_total : IsTotalOrder network_cmp
@@ -214,7 +214,7 @@ each_service e = true
 moved : (old new : RouterView) (w : SendingView) (now : ℕ) (a : OutcomeView) (number : ℕ) → w.port ≡ number → 1 ≤ number → Receives old (w.port - 1 + 1) w.bytes now a new → Receives old number w.bytes now a new
 moved old new w now a number same there h = subst (λ (k : ℕ). Receives old k w.bytes now a new) (omega (arith, same, there)) h
 
-module _ (one : OneIpx) (no_fault : NoIpxFault) (apart : Apart) (ports : List Port) (now : ℕ) (ns : List StaticNeighbour) (advertisements : List SendingView) (are : AreWordsOf ns advertisements) (others : All (IsAnotherNode ports) ns)
+module _ (one : OneIpx) (no_fault : NoIpxFault) (apart : Apart) (ports : List Port) (now : ℕ) (ns : List StaticNeighbour) (advertisements : List SendingView) (are : AreStaticAdvertisements ns advertisements) (others : All (IsAnotherNode ports) ns)
     (n : StaticNeighbour) (there : Contains ns n) where
   near_port : (m : StaticNeighbour) (other : IsAnotherNode ports m) (old : RouterView) → old.ports ≡ ports → IsPort old.ports m.port other.0
   near_port m other old same = subst (λ (ps : List Port). IsPort ps m.port other.0) (sym same) other.1

@@ -10,12 +10,12 @@ use Rattle.ipx_router.specs.declared.port.Port.{Port}
 use Rattle.ipx_router.specs.Hearing.{is_heard, route_metric, service_metric}
 use Rattle.ipx_router.specs.Knowledge.{routes_in, services_in}
 use Rattle.ipx_router.specs.Ports.{IsPort}
-use Rattle.ipx_router.specs.Telling.{is_due}
-use Rattle.ipx_router.specs.Told.{key_of_service, route_key}
+use Rattle.ipx_router.specs.Advertisements.{is_due}
+use Rattle.ipx_router.specs.AdvertisedEntries.{key_of_service, route_key}
 use Rattle.ipx_carrier.specs.PriorityRouterCore.{PriorityCoreView, PriorityHears}
 use Rattle.ipx_static.specs.declared.neighbour.StaticNeighbour.{StaticNeighbour}
 use Rattle.ipx_static.specs.WithStatics.{WithStaticsView, HearsIfDue}
-use Rattle.ipx_static.specs.StaticAdvertisements.{AreWordsOf}
+use Rattle.ipx_static.specs.StaticAdvertisements.{AreStaticAdvertisements}
 
 -- the source of a neighbour's advertisements
 abbrev pub static_source : StaticNeighbour → Source
@@ -27,9 +27,9 @@ IsAnotherNode ports n = (at : Port) × IsPort ports n.port at × (n.node ≢ at.
 
 -- a router receives the advertisements of these neighbours, because they are due
 pub record HearsWithStatics (ns : List StaticNeighbour) (now : ℕ) (old new : WithStaticsView PriorityCoreView) : Type 0 where
-  pub advertisements : AreWordsOf ns old.advertisements
+  pub advertisements : AreStaticAdvertisements ns old.advertisements
   pub others : All (IsAnotherNode old.core.router.ports) ns
-  pub due : is_due old.said now ≡ true
+  pub due : is_due old.refreshed_at now ≡ true
   pub heard : HearsIfDue PriorityHears old now new
 
 -- a router finds no table full: its count of that stays, and is not at the greatest

@@ -12,15 +12,15 @@ use Rattle.ipx_control.specs.Sap as sap
 use Rattle.ipx_tables.specs.declared.service.ServiceKey.{ServiceKey}
 use Rattle.ipx_router.specs.Hearing.{is_heard, route_metric, service_metric}
 use Rattle.ipx_router.specs.Knowledge.{routes_in, services_in}
-use Rattle.ipx_router.specs.Telling.{is_due}
-use Rattle.ipx_router.specs.Told.{key_of_service, route_key}
+use Rattle.ipx_router.specs.Advertisements.{is_due}
+use Rattle.ipx_router.specs.AdvertisedEntries.{key_of_service, route_key}
 use Rattle.ipx_carrier.specs.PriorityRouterCore.{PriorityCoreView, PriorityGives, PriorityHears}
 use Rattle.ipx_carrier.specs.Turns.{Given}
 use Rattle.ipx_metrics.specs.MeteredRouter.{CountedView, CountsAsItGives, CountsHeard, without_counts}
 use Rattle.ipx_static.specs.declared.neighbour.StaticNeighbour.{StaticNeighbour}
 use Rattle.ipx_static.specs.WithStatics.{WithStaticsView, GivesWithStatics, HearsUnder}
 use Rattle.ipx_static.specs.StaticOffers.{Counts, FindsSpace, IsAnotherNode, IsAdvertisedAlone, static_source}
-use Rattle.ipx_static.specs.StaticAdvertisements.{AreWordsOf}
+use Rattle.ipx_static.specs.StaticAdvertisements.{AreStaticAdvertisements}
 
 -- bytes are received on a port; or the core is asked for a packet, and gives one or none; or it is to ask its
 -- neighbours once more
@@ -84,9 +84,9 @@ OffersItself n key port bytes = (port + 1 ≡ n.port) × (p : PacketView) × (ta
 -- a run that begins by asking for a packet as advertisements are due, and finds no table full then
 pub record RunsWithStatics (ns : List StaticNeighbour) (start : ℕ) (calls : List StaticCallAt)
     (old new : WithStaticsView PriorityCoreView) : Type 0 where
-  pub advertisements : AreWordsOf ns old.advertisements
+  pub advertisements : AreStaticAdvertisements ns old.advertisements
   pub others : All (IsAnotherNode old.core.router.ports) ns
-  pub due : is_due old.said start ≡ true
+  pub due : is_due old.refreshed_at start ≡ true
   pub given : Option Given
   pub first : WithStaticsView PriorityCoreView
   pub begins : DoesStaticCall start (Asked given) old first
@@ -130,7 +130,7 @@ StaticServicesHold = (ns : List StaticNeighbour) (start : ℕ) (calls : List Sta
 
 -- a router that counts, without its counts
 abbrev pub uncounted : WithStaticsView CountedView → WithStaticsView PriorityCoreView
-uncounted s = record { core = without_counts s.core; advertisements = s.advertisements; said = s.said }
+uncounted s = record { core = without_counts s.core; advertisements = s.advertisements; refreshed_at = s.refreshed_at }
 
 -- what a call does to a router that counts
 abbrev pub DoesCountedCall : ℕ → StaticCall → WithStaticsView CountedView → WithStaticsView CountedView → Type 0

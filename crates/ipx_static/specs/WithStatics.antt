@@ -3,7 +3,7 @@
 -- `HearOutOfMemoryUnder` and `NextOutOfMemoryWithStatics` for out of memory.
 use Rattle.std.specs.Prelude.{◌≡◌, ◌⊎◌, ℕ, ◌-◌, true, List, [], ◌∷◌, ◌++◌, Option, Some, MatchBool}
 use Rattle.ipx_router.specs.RouterPackets.{SendingView}
-use Rattle.ipx_router.specs.Telling.{is_due}
+use Rattle.ipx_router.specs.Advertisements.{is_due}
 use Rattle.ipx_carrier.specs.Turns.{Given}
 
 pub record WithStaticsView (C : Type 0) : Type 0 where
@@ -12,7 +12,7 @@ pub record WithStaticsView (C : Type 0) : Type 0 where
   -- the packets to receive, each with the number of its port, from 1
   pub advertisements : List SendingView
   -- the time at which they were last received
-  pub said : Option ℕ
+  pub refreshed_at : Option ℕ
 
 -- the core below asks its neighbours once more
 abbrev pub asking_under : {C : Type 0} → (C → C) → WithStaticsView C → WithStaticsView C
@@ -32,9 +32,9 @@ module _ {C : Type 0} (hears : C → ℕ → List ℕ → ℕ → C → Type 0) 
 
   -- the core below receives all advertisements, at first, and once a minute has passed since the last time
   abbrev pub HearsIfDue : WithStaticsView C → ℕ → WithStaticsView C → Type 0
-  HearsIfDue old now new = MatchBool (is_due old.said now)
+  HearsIfDue old now new = MatchBool (is_due old.refreshed_at now)
       (HearsAdvertisements now old.advertisements old.core new.core
-      × (new ≡ record old { core = new.core; said = Some now }))
+      × (new ≡ record old { core = new.core; refreshed_at = Some now }))
       (new ≡ old)
 
   -- then the core below is asked
@@ -58,9 +58,9 @@ module _ {C : Type 0} (hears hear_out_of_memory : C → ℕ → List ℕ → ℕ
 
   -- memory ran out for an advertisement that was due, and all are due again in a minute
   abbrev pub HearOutOfMemoryIfDue : WithStaticsView C → ℕ → WithStaticsView C → Type 0
-  HearOutOfMemoryIfDue old now new = (is_due old.said now ≡ true)
+  HearOutOfMemoryIfDue old now new = (is_due old.refreshed_at now ≡ true)
       × AdvertisementOutOfMemory now old.advertisements old.core new.core
-      × (new ≡ record old { core = new.core; said = Some now })
+      × (new ≡ record old { core = new.core; refreshed_at = Some now })
 
   -- that happens, or the core below runs out of memory as it is asked after them
   abbrev pub NextOutOfMemoryWithStatics : (C → ℕ → C → Type 0) → WithStaticsView C → ℕ → WithStaticsView C → Type 0

@@ -8,7 +8,7 @@ ghost use Rattle.ipx_control.specs.Sap.{Response as services_response};
 ghost use Rattle.ipx_router.specs.Adding.{AddsPackets};
 ghost use Rattle.ipx_router.specs.Ports.{AreOnPorts, IsPortNumber};
 ghost use Rattle.ipx_router.specs.RouterPackets.{AreBytesOf, AreRoutePackets, AreServicePackets, IsRipPacket, IsSapPacket, own_header, sending_of, sendings};
-ghost use Rattle.ipx_static.specs.StaticAdvertisements.{AreWords, AreWordsOf, heard_on};
+ghost use Rattle.ipx_static.specs.StaticAdvertisements.{AreAdvertisementsOf, AreStaticAdvertisements, heard_on};
 
 use crate::neighbour::StaticNeighbour;
 use ipx_control::{
@@ -113,7 +113,7 @@ fn services_reply(
 }
 
 /// Adds the responses of a list of routes.
-fn add_route_words(
+fn add_route_advertisements(
     alloc: Global,
     advertisements: &mut Vec<Reply>,
     from: Speaker,
@@ -133,7 +133,7 @@ fn add_route_words(
 }
 
 /// Adds the responses of a list of services.
-fn add_service_words(
+fn add_service_advertisements(
     alloc: Global,
     advertisements: &mut Vec<Reply>,
     from: Speaker,
@@ -153,30 +153,33 @@ fn add_service_words(
 }
 
 /// Adds the advertisements of a neighbour.
-fn add_words(
+fn add_advertisements(
     alloc: Global,
     advertisements: &mut Vec<Reply>,
     neighbour: &StaticNeighbour,
 ) -> Result<(), OutOfMemory>
-    ensures { OnOk result (AddsPackets (AreWords neighbour.now) advertisements.old.items advertisements.new.items) }
+    ensures { OnOk result (AddsPackets (AreAdvertisementsOf neighbour.now) advertisements.old.items advertisements.new.items) }
 {
     let from = Speaker {
         port: neighbour.port,
         node: neighbour.node,
     };
-    add_route_words(alloc, advertisements, from, &neighbour.routes)?;
-    add_service_words(alloc, advertisements, from, &neighbour.services)
+    add_route_advertisements(alloc, advertisements, from, &neighbour.routes)?;
+    add_service_advertisements(alloc, advertisements, from, &neighbour.services)
 }
 
 /// The advertisements of all neighbours, one after another.
-pub fn words_of(alloc: Global, neighbours: &[StaticNeighbour]) -> Result<Vec<Reply>, OutOfMemory>
-    ensures advertisements { IfOk result (λ v. AreWordsOf neighbours.now (sendings v.items)) }
+pub fn advertisements_of(
+    alloc: Global,
+    neighbours: &[StaticNeighbour],
+) -> Result<Vec<Reply>, OutOfMemory>
+    ensures advertisements { IfOk result (λ v. AreStaticAdvertisements neighbours.now (sendings v.items)) }
     ensures there { (count : ℕ) → All (λ n. IsPortNumber count n.port) neighbours.now
         → IfOk result (λ v. AreOnPorts count (sendings v.items)) }
 {
     let mut advertisements = Vec::new(alloc);
     for neighbour in neighbours {
-        add_words(alloc, &mut advertisements, neighbour)?;
+        add_advertisements(alloc, &mut advertisements, neighbour)?;
     }
     Ok(advertisements)
 }

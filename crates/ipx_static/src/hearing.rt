@@ -3,7 +3,7 @@
 ghost use Rattle.std.specs.Prelude.{◌≡◌, OnOk, OnErr};
 ghost use Rattle.ipx_router.specs.Ports.{AreOnPorts};
 ghost use Rattle.ipx_router.specs.RouterPackets.{sendings};
-ghost use Rattle.ipx_router.specs.Telling.{IsNextAdvertisement, is_due};
+ghost use Rattle.ipx_router.specs.Advertisements.{IsNextAdvertisement, is_due};
 ghost use Rattle.ipx_static.specs.WithStatics.{HearsAdvertisements, AdvertisementOutOfMemory};
 
 use ipx_carrier::Core;
@@ -15,20 +15,20 @@ use std::alloc::Global;
 const PERIOD: u64 = 60_000;
 
 /// Whether they are due: at first, and once a minute has passed since the last time.
-pub fn is_time(said: Option<u64>, now: u64) -> bool
-    ensures { result ≡ is_due said now }
+pub fn is_time(refreshed_at: Option<u64>, now: u64) -> bool
+    ensures { result ≡ is_due refreshed_at now }
 {
-    match said {
+    match refreshed_at {
         None => true,
         Some(last) => now.saturating_sub(last) >= PERIOD,
     }
 }
 
 /// When they are due next.
-pub fn next_time(said: Option<u64>) -> Option<u64>
-    ensures { IsNextAdvertisement said result }
+pub fn next_time(refreshed_at: Option<u64>) -> Option<u64>
+    ensures { IsNextAdvertisement refreshed_at result }
 {
-    match said {
+    match refreshed_at {
         None => Some(0),
         Some(last) => last.checked_add(PERIOD),
     }
@@ -36,7 +36,7 @@ pub fn next_time(said: Option<u64>) -> Option<u64>
 
 /// The core receives the advertisements, in order. It stops at the first for which it runs out of
 /// memory.
-pub fn hear_words<C: Core>(
+pub fn hear_advertisements<C: Core>(
     alloc: Global,
     core: &mut C,
     advertisements: &[Reply],

@@ -2,12 +2,12 @@
 
 ghost use Rattle.std.specs.Prelude.{◌≡◌, None, All, IfOk, OnOk, OnErr};
 ghost use Rattle.ipx_router.specs.Ports.{IsPortNumber};
-ghost use Rattle.ipx_router.specs.Telling.{IsNextAdvertisement};
+ghost use Rattle.ipx_router.specs.Advertisements.{IsNextAdvertisement};
 ghost use Rattle.ipx_static.specs.WithStatics.{HearsIfDue, HearOutOfMemoryIfDue};
-ghost use Rattle.ipx_static.specs.StaticAdvertisements.{AreWordsOf};
+ghost use Rattle.ipx_static.specs.StaticAdvertisements.{AreStaticAdvertisements};
 
-use crate::advertisements::words_of;
-use crate::hearing::{hear_words, is_time, next_time};
+use crate::advertisements::advertisements_of;
+use crate::hearing::{hear_advertisements, is_time, next_time};
 use crate::neighbour::StaticNeighbour;
 use crate::restart_discovery::RestartDiscovery;
 use ipx_carrier::Core;
@@ -23,7 +23,7 @@ use std::marker::Model;
 pub struct WithStatics<C: Core + Drop> {
     core: C,
     advertisements: Vec<Reply>,
-    said: Option<u64>,
+    refreshed_at: Option<u64>,
 }
 
 impl<C: Core + Drop> Model for WithStatics<C> {
@@ -33,7 +33,7 @@ impl<C: Core + Drop> Model for WithStatics<C> {
 
     ghost Value = { WithStaticsView C };
 
-    ghost view = { λ s. record { core = s.core; advertisements = sendings s.advertisements.items; said = s.said } };
+    ghost view = { λ s. record { core = s.core; advertisements = sendings s.advertisements.items; refreshed_at = s.refreshed_at } };
 
     ghost invariant = { λ s. AreOnPorts (C.port_count s.core) (sendings s.advertisements.items) };
 }
@@ -48,14 +48,14 @@ impl<C: Core + Drop> WithStatics<C> {
     ) -> Result<WithStatics<C>, OutOfMemory>
         requires { All (λ n. IsPortNumber (C.port_count core) n.port) neighbours.now }
         ensures core { IfOk result (λ s. s.core ≡ core) }
-        ensures advertisements { IfOk result (λ s. AreWordsOf neighbours.now s.advertisements) }
-        ensures unsaid { IfOk result (λ s. s.said ≡ None) }
+        ensures advertisements { IfOk result (λ s. AreStaticAdvertisements neighbours.now s.advertisements) }
+        ensures unsaid { IfOk result (λ s. s.refreshed_at ≡ None) }
     {
-        let advertisements = words_of(alloc, neighbours)?;
+        let advertisements = advertisements_of(alloc, neighbours)?;
         Ok(WithStatics {
             core,
             advertisements,
-            said: None,
+            refreshed_at: None,
         })
     }
 
@@ -71,9 +71,9 @@ impl<C: Core + Drop> WithStatics<C> {
     ///
     /// If you wait for datagrams, wake by then, and ask for a packet.
     pub fn next_refresh(&self) -> Option<u64>
-        ensures { IsNextAdvertisement self.now.said result }
+        ensures { IsNextAdvertisement self.now.refreshed_at result }
     {
-        next_time(self.said)
+        next_time(self.refreshed_at)
     }
 
     /// Lets the core below receive the advertisements, if they are due.
@@ -82,11 +82,11 @@ impl<C: Core + Drop> WithStatics<C> {
         ensures refused { OnErr result (HearOutOfMemoryIfDue C.hears C.hear_out_of_memory self.old now self.new) }
         ensures ports { C.port_count self.new.core ≡ C.port_count self.old.core }
     {
-        if !is_time(self.said, now) {
+        if !is_time(self.refreshed_at, now) {
             return Ok(());
         }
-        self.said = Some(now);
-        hear_words(alloc, &mut self.core, &self.advertisements, now)
+        self.refreshed_at = Some(now);
+        hear_advertisements(alloc, &mut self.core, &self.advertisements, now)
     }
 }
 

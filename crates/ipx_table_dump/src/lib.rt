@@ -17,7 +17,7 @@ mod reading;
 mod route_lines;
 mod section_headers;
 mod service_lines;
-mod standing;
+mod valid_offers;
 mod words;
 mod writing;
 

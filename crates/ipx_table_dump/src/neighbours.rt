@@ -4,7 +4,7 @@ ghost use Rattle.std.specs.Prelude.{◌≡◌, IfOk, take};
 ghost use Rattle.ipx_table_dump.specs.FirstAdvertisers.{AreFirstAdvertisers};
 
 use crate::advertisers::Advertiser;
-use crate::standing::offers_at;
+use crate::valid_offers::offers_at;
 use crate::writing::advertisers_in;
 use ipx_tables::{RouteTable, ServiceTable, Source};
 use std::alloc::{AllocError, Global};

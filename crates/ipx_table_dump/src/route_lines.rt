@@ -8,7 +8,7 @@ ghost use Rattle.ipx_tables.specs.Sorted.{IsRising};
 ghost use Rattle.ipx_table_dump.specs.StillPresent.{is_among_best};
 ghost use Rattle.ipx_table_dump.specs.TableText.{network_lines, own_line, own_lines, route_offer_line};
 
-use crate::standing::is_among_best;
+use crate::valid_offers::is_among_best;
 use crate::words::{put_head, put_heard, put_network, put_source, seconds_since};
 use ipx_router::Port;
 use ipx_tables::{Offer, RouteMetric, Source};

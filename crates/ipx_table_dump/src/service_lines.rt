@@ -9,7 +9,7 @@ ghost use Rattle.ipx_inspect.specs.ShowLine.{address_text, name_text, word_text}
 ghost use Rattle.ipx_table_dump.specs.StillPresent.{is_among_best};
 ghost use Rattle.ipx_table_dump.specs.TableText.{service_lines, service_offer_line};
 
-use crate::standing::is_among_best;
+use crate::valid_offers::is_among_best;
 use crate::words::{
     put_address, put_head, put_heard, put_name, put_short, put_source, seconds_since,
 };

@@ -11,7 +11,7 @@ use crate::advertiser_lines::put_advertisers;
 use crate::advertisers::{Advertiser, advertisers_of};
 use crate::route_lines::{RouteOffer, put_networks};
 use crate::service_lines::{ServiceOffer, put_services};
-use crate::standing::offers_at;
+use crate::valid_offers::offers_at;
 use ipx_router::Port;
 use ipx_tables::{Metric, Offers, RouteTable, ServiceTable, Source};
 use std::alloc::{AllocError, Global};

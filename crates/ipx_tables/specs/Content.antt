@@ -10,7 +10,7 @@ use Rattle.ipx_tables.specs.declared.offer.Offer.{Offer}
 
 -- a table: how many offers it may hold, and those that it holds, in any order
 pub record Table (K M : Type 0) : Type 0 where
-  pub most : ℕ
+  pub capacity : ℕ
   pub offers : List (Offer K M)
 
 -- a finite map from key and source to metric and time
@@ -77,10 +77,10 @@ module _ {K : Type 0} (cmp : K → K → Ordering) where
   keys_after_hear dead keys p metric q =
       cond (is_same p q) (cond (dead metric) None (Some p.0)) (keys q)
 
-  -- no key and source is listed twice, and there are at most `most` offers
+  -- no key and source is listed twice, and there are at most `capacity` offers
   pub record IsTable {M : Type 0} (t : Table K M) : Type 0 where
     pub apart : HasDistinctKeys is_same t.offers
-    pub within : length t.offers ≤ t.most
+    pub within : length t.offers ≤ t.capacity
 
 -- the content after old offers were removed
 abbrev pub after_age : {K M : Type 0} → Content K M → ℕ → Content K M

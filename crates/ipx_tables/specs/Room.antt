@@ -10,7 +10,7 @@ use Rattle.ipx_tables.specs.Content.{Content, IsTable, Table, content}
 pub record Fits {K M : Type 0} (cmp : K → K → Ordering) (most : ℕ) (c : Content K M) : Type 0 where
   pub table : Table K M
   pub valid : IsTable cmp table
-  pub room : table.most ≡ most
+  pub room : table.capacity ≡ most
   pub says : (p : K × Source) → content cmp table.offers p ≡ c p
 
 module _ {K M : Type 0} (cmp : K → K → Ordering) (dead : M → Bool) where
@@ -19,14 +19,14 @@ module _ {K M : Type 0} (cmp : K → K → Ordering) (dead : M → Bool) where
   pub record IsFull (t : Table K M) (p : K × Source) (metric : M) : Type 0 where
     pub alive : dead metric ≡ false
     pub unknown : content cmp t.offers p ≡ None
-    pub full : t.most ≤ length t.offers
+    pub full : t.capacity ≤ length t.offers
 
   -- an offer makes the table grow: its metric is not dead, there is no offer of its key and source, and there
   -- is space for one more
   pub record Grows (t : Table K M) (p : K × Source) (metric : M) : Type 0 where
     pub alive : dead metric ≡ false
     pub unknown : content cmp t.offers p ≡ None
-    pub room : length t.offers < t.most
+    pub room : length t.offers < t.capacity
 
 -- the numbers of a table's faults
 abbrev pub table_fault_number : TableFault → ℕ

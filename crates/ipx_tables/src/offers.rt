@@ -27,7 +27,7 @@ use std::marker::Model;
 /// Times are milliseconds. They may go back: an offer with a later time than `now` has age 0.
 #[derive(Drop)]
 pub struct Offers<K: Ord + Copy, M: Metric + Copy> {
-    most: usize,
+    capacity: usize,
     /// No offer expires before this time. It may be too early, which costs only a search for the
     /// oldest offer.
     none_old_before: u64,
@@ -40,20 +40,20 @@ impl<K: Ord + Copy, M: Metric + Copy> Model for Offers<K, M> {
 
     ghost Value = { Table K M };
 
-    ghost view = { λ o. record { most = o.most; offers = o.offer_store } };
+    ghost view = { λ o. record { capacity = o.capacity; offers = o.offer_store } };
 
-    ghost invariant = { λ o. IsTable K.cmp (record { most = o.most; offers = o.offer_store })
+    ghost invariant = { λ o. IsTable K.cmp (record { capacity = o.capacity; offers = o.offer_store })
         × NoneOldBefore o.none_old_before o.offer_store };
 }
 
 impl<K: Ord + Copy, M: Metric + Copy> Offers<K, M> {
-    /// An empty table for at most `most` offers. It allocates nothing yet.
-    pub fn new(alloc: Global, most: usize) -> Self
-        ensures most { result.most ≡ most }
+    /// An empty table for at most `capacity` offers. It allocates nothing yet.
+    pub fn new(alloc: Global, capacity: usize) -> Self
+        ensures capacity { result.capacity ≡ capacity }
         ensures empty { result.offers ≡ [] }
     {
         Offers {
-            most,
+            capacity,
             none_old_before: u64::MAX,
             offer_store: OfferStore::new(alloc),
         }
@@ -61,7 +61,7 @@ impl<K: Ord + Copy, M: Metric + Copy> Offers<K, M> {
 
     /// Learns an offer: it replaces the last one of this key and source. A dead metric removes it.
     ///
-    /// Only a new key and source can be refused: `Full` if the table already has `most` offers,
+    /// Only a new key and source can be refused: `Full` if the table already has `capacity` offers,
     /// `OutOfMemory` if it could not grow. A refusal leaves the table as it was. If keys differ but
     /// compare as equal, the table keeps the one learned last.
     pub fn hear(
@@ -80,7 +80,7 @@ impl<K: Ord + Copy, M: Metric + Copy> Offers<K, M> {
             ≡ keys_after_hear K.cmp M.dead (heard_key K.cmp self.old.offers)
             (key, source) metric p) }
         ensures refused { OnErr result (self.new ≡ self.old) }
-        ensures most { self.new.most ≡ self.old.most }
+        ensures capacity { self.new.capacity ≡ self.old.capacity }
         ensures valid { IsTable K.cmp self.new }
 
         // When each refusal comes.
@@ -117,7 +117,7 @@ impl<K: Ord + Copy, M: Metric + Copy> Offers<K, M> {
                 self.offer_store.replace(at, offer);
                 Ok(())
             }
-            Err(_) if self.offer_store.len() >= self.most => Err(TableFault::Full),
+            Err(_) if self.offer_store.len() >= self.capacity => Err(TableFault::Full),
             Err(at) => {
                 self.offer_store.add(at, offer)?;
                 Ok(())
@@ -138,7 +138,7 @@ impl<K: Ord + Copy, M: Metric + Copy> Offers<K, M> {
         ensures many { length self.new.offers
             ≡ count_by (λ o. is_young now o.heard) self.old.offers }
         ensures fewer { length self.new.offers ≤ length self.old.offers }
-        ensures most { self.new.most ≡ self.old.most }
+        ensures capacity { self.new.capacity ≡ self.old.capacity }
         ensures valid { IsTable K.cmp self.new }
     {
         if now < self.none_old_before {

@@ -50,7 +50,7 @@ pub const MAX_ROUTES: usize = 1024;
 
 /// An empty table for `MAX_ROUTES` offers.
 pub fn route_table(alloc: Global) -> RouteTable
-    ensures most { result.most ≡ 1024 }
+    ensures capacity { result.capacity ≡ 1024 }
     ensures empty { result.offers ≡ [] }
 {
     Offers::new(alloc, MAX_ROUTES)

@@ -93,7 +93,7 @@ pub const MAX_SERVICES: usize = 4096;
 
 /// An empty table for `MAX_SERVICES` offers.
 pub fn service_table(alloc: Global) -> ServiceTable
-    ensures most { result.most ≡ 4096 }
+    ensures capacity { result.capacity ≡ 4096 }
     ensures empty { result.offers ≡ [] }
 {
     Offers::new(alloc, MAX_SERVICES)

@@ -73,7 +73,7 @@ pub fn task_of(words: &[String]) -> Option<Task<'_>>
             option_task(command.as_str(), option.as_str(), value.as_str())
         }
         [_, command, first, second, third] => {
-            two_words_task(
+            three_words_task(
                 command.as_str(),
                 first.as_str(),
                 second.as_str(),
@@ -161,7 +161,7 @@ fn type_task<'a>(command: &str, file: &'a str, kind: &'a str, json: bool) -> Opt
 }
 
 /// A command with three more words: a file, a type and `--json`.
-fn two_words_task<'a>(
+fn three_words_task<'a>(
     command: &str,
     first: &'a str,
     second: &'a str,

@@ -206,7 +206,7 @@ still_noted place pinged by xs due has =
 not_anew : (b : Bool) (l : ServerView) (from place : SocketAddrV4) (p : PacketView) (size now pinged by : ℕ) → makes_client l from p.header size now ≡ b → is_noted place l.noted ≡ true
     → is_some (client_at from (if b then server_admitting from now l else l).clients) ≡ false → is_noted from (if b then server_admitting from now l else l).noted ≡ false → IsDue place pinged by (record { place = from; since = now; cause = Registration })
 not_anew true l from place p size now pinged by makes has none apart =
-    let found = new_found l.most now (node_of_place l.port from) from l.clients (makes_new l from p.header size now makes) in
+    let found = new_found l.max_clients now (node_of_place l.port from) from l.clients (makes_new l from p.header size now makes) in
     absurd (both_ways (is_some (client_at from (server_admitting from now l).clients)) none (ap is_some found))
 not_anew false l from place p size now pinged by makes has none apart = λ at.
     let same : from ≡ place = one_place from place at in

@@ -94,7 +94,7 @@ dropped_hears l from size d = record {
 free_node : (l : ServerView) (from : SocketAddrV4) (now : ℕ) → registration_drop l from now ≡ None → client_of_node (node_of_place l.port from) l.clients ≡ None
 free_node l from now e =
     let node : Node = node_of_place l.port from in
-    let rest : Option ServerDrop = if is_address_full now from l.clients then Some FullOfAddress else if is_server_full l.most now l.clients then Some Full else None in
+    let rest : Option ServerDrop = if is_address_full now from l.clients then Some FullOfAddress else if is_server_full l.max_clients now l.clients then Some Full else None in
     let taken : is_node_taken l node ≡ false = first_none (is_node_taken l node) (NodeTaken node) rest e in
     let here : is_node_here l.port l.clients node ≡ false = left_false (is_node_here l.port l.clients node) (is_some (remote_client_of node l.far)) taken in
     is_none (client_of_node node l.clients) (right_false (bytes_eq node.0 l.port.own.0 || bytes_eq node.0 broadcast_node) (is_some (client_of_node node l.clients)) here)
@@ -103,13 +103,13 @@ rest_none : (b : Bool) (d : ServerDrop) (o : Option ServerDrop) → (if b then S
 rest_none true d o e = cc
 rest_none false d o e = e
 
-room_at : (l : ServerView) (from : SocketAddrV4) (now : ℕ) → registration_drop l from now ≡ None → (is_address_full now from l.clients ≡ false) × (is_server_full l.most now l.clients ≡ false)
+room_at : (l : ServerView) (from : SocketAddrV4) (now : ℕ) → registration_drop l from now ≡ None → (is_address_full now from l.clients ≡ false) × (is_server_full l.max_clients now l.clients ≡ false)
 room_at l from now e =
-    let last : Option ServerDrop = if is_server_full l.most now l.clients then Some Full else None in
+    let last : Option ServerDrop = if is_server_full l.max_clients now l.clients then Some Full else None in
     let rest : Option ServerDrop = if is_address_full now from l.clients then Some FullOfAddress else last in
     let free : rest ≡ None = rest_none (is_node_taken l (node_of_place l.port from)) (NodeTaken (node_of_place l.port from)) rest e in (
       first_none (is_address_full now from l.clients) FullOfAddress last free,
-      first_none (is_server_full l.most now l.clients) Full None (rest_none (is_address_full now from l.clients) FullOfAddress last free),
+      first_none (is_server_full l.max_clients now l.clients) Full None (rest_none (is_address_full now from l.clients) FullOfAddress last free),
     )
 
 module _ (l : ServerView) (from : SocketAddrV4) (size : ℕ) (thirty : ipx_header_size ≤ size) where
@@ -339,7 +339,7 @@ shows_it l from h size now makes =
     let parts = all_true (not (is_joined_place from l.routers)) (not (is_registration h size)) (not (is_some (client_at from l.clients))) (not (is_some (stranger_drop l from h now))) makes in
     shown_by (bytes_eq h.from.node.0 (node_of_place l.port from).0) (registration_drop l from now) (not_some (stranger_drop l from h now) parts.2)
 
-pub stranger_room : (l : ServerView) (from : SocketAddrV4) (h : IpxHeader) (now : ℕ) → is_some (stranger_drop l from h now) ≡ false → (is_address_full now from l.clients ≡ false) × (is_server_full l.most now l.clients ≡ false)
+pub stranger_room : (l : ServerView) (from : SocketAddrV4) (h : IpxHeader) (now : ℕ) → is_some (stranger_drop l from h now) ≡ false → (is_address_full now from l.clients ≡ false) × (is_server_full l.max_clients now l.clients ≡ false)
 stranger_room l from h now e =
     room_at l from now (accepted (bytes_eq h.from.node.0 (node_of_place l.port from).0) (registration_drop l from now) (not_some (stranger_drop l from h now) (ap not e)))
 

@@ -118,9 +118,9 @@ module _ (most now : ℕ) (node : Node) (from place : SocketAddrV4) (xs : List C
   stays_with old = goes_by (nat_le max_address_clients (length (clients_of_ip from xs))) old
 
 -- who was heard lately is a client as a datagram is judged, whoever becomes one
-pub met_remains : (from place : SocketAddrV4) (now : ℕ) (l m : ServerView) (c : Client) → MayKnow from now l m → length l.clients ≤ l.most → EachClientOnce l.clients → client_at place l.clients ≡ Some c → was_heard_within replaced_after now c ≡ true
+pub met_remains : (from place : SocketAddrV4) (now : ℕ) (l m : ServerView) (c : Client) → MayKnow from now l m → length l.clients ≤ l.max_clients → EachClientOnce l.clients → client_at place l.clients ≡ Some c → was_heard_within replaced_after now c ≡ true
     → is_some (client_at place m.clients) ≡ true
 met_remains from place now l m c (Same e) few once found late =
     ap (λ (v : ServerView). is_some (client_at place v.clients)) e ∙ ap is_some found
 met_remains from place now l m c (Known apart none address full e) few once found late =
-    ap (λ (v : ServerView). is_some (client_at place v.clients)) e ∙ stays_with l.most now (node_of_place l.port from) from place l.clients c few once found late full address
+    ap (λ (v : ServerView). is_some (client_at place v.clients)) e ∙ stays_with l.max_clients now (node_of_place l.port from) from place l.clients c few once found late full address

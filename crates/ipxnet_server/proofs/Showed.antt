@@ -99,7 +99,7 @@ met_by true l from place p size now makes has =
     let test = is_client_at place in
     let goes : Option Client = client_that_goes from l.clients in
     let kept : List Client = clients_but goes l.clients in
-    let n = length kept + 1 - l.most in
+    let n = length kept + 1 - l.max_clients in
     let d : Client = new_client (node_of_place l.port from) from now in
     let shown = shows_node l.port place (Datagram from p size now) in
     split (is_some (find test (drop n kept))) (is_some (find test (d ∷ [])))

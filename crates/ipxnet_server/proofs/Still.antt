@@ -231,7 +231,7 @@ met_heard from now l m (Same e) there =
 met_heard from now l m (Known apart none few room e) there =
     let node : Node = node_of_place l.port from in
     ap (λ (v : ServerView). client_at from (clients_heard from now v.clients)) e
-    ∙ heard_found now from (clients_with l.most node from now l.clients) (new_client node from now) (new_found l.most now node from l.clients none)
+    ∙ heard_found now from (clients_with l.max_clients node from now l.clients) (new_client node from now) (new_found l.max_clients now node from l.clients none)
     ∙ sym (ap (λ (o : Option Client). Some (client_heard node from now o)) none)
 
 pub met_joined : (from : SocketAddrV4) (now : ℕ) (l m : ServerView) → MayKnow from now l m → is_joined_place from l.routers ≡ true → m ≡ l
@@ -246,7 +246,7 @@ met_rest from now l m (Known apart none few room e) = ap (λ (v : ServerView). r
 -- ---- what no datagram changes
 
 abbrev rest_of : ServerView → ServerPort × ℕ × List SocketAddrV4 × ℕ
-rest_of l = (l.port, l.most, l.routers, l.pinged)
+rest_of l = (l.port, l.max_clients, l.routers, l.pinged)
 
 told_rest : (told : Option Node) (from : SocketAddrV4) (now : ℕ) (l : ServerView) → rest_of (server_learned told from now l) ≡ rest_of l
 told_rest None from now l = refl

@@ -8,7 +8,7 @@ use Rattle.ipxnet_server.specs.declared.attempts.Attempt.{Attempt}
 use Rattle.ipxnet_server.specs.declared.attempts.Repeats.{Repeats}
 use Rattle.ipxnet_server.specs.ServerCounted.{drops_raised}
 
--- a registration is told if so many others came from its IP address, within so many ms before it
+-- a registration is logged if so many others came from its IP address, within so many ms before it
 abbrev pub attempts_before : ℕ
 attempts_before = 2
 
@@ -19,7 +19,7 @@ attempt_time = 60000
 abbrev pub max_attempts : ℕ
 max_attempts = 64
 
--- the registrations that are remembered, in their order, and how often an IP address was to be told
+-- the registrations that are remembered, in their order, and how often an IP address was to be logged
 pub record AttemptsView : Type 0 where
   pub recent : List Attempt
   pub repeats : Repeats
@@ -49,19 +49,19 @@ attempts_with a attempts = drop (length attempts + 1 - max_attempts) attempts ++
 abbrev pub no_repeats : Repeats
 no_repeats = record { count = 0; last = None }
 
--- an IP address is to be told once more, and this was its last registration
+-- an IP address is to be logged once more, and this was its last registration
 abbrev pub repeats_raised : SocketAddrV4 → Repeats → Repeats
 repeats_raised place r = record { count = drops_raised r.count; last = Some place }
 
 -- a registration from a place: it is the third of its IP address within a minute, or one of the first two. After the
 -- third the IP address begins anew
-abbrev pub is_told_attempt : SocketAddrV4 → ℕ → AttemptsView → Bool
-is_told_attempt place now s =
+abbrev pub is_logged_attempt : SocketAddrV4 → ℕ → AttemptsView → Bool
+is_logged_attempt place now s =
     nat_le attempts_before (length (attempts_of_ip place (attempts_left now s.recent)))
 
 abbrev pub attempts_after : SocketAddrV4 → ℕ → AttemptsView → AttemptsView
 attempts_after place now s =
-    if is_told_attempt place now s then record {
+    if is_logged_attempt place now s then record {
       recent = attempts_of_other_ips place (attempts_left now s.recent);
       repeats = repeats_raised place s.repeats;
     } else record s {

@@ -39,7 +39,7 @@ use Rattle.ipxnet_server.specs.NotedPlaces.{noted_left, noted_without, places_no
 -- and which client was limited last
 pub record ServerView : Type 0 where
   pub port : ServerPort
-  pub most : ℕ
+  pub max_clients : ℕ
   pub clients : List Client
   pub counts : ServerCounts
   pub routers : List SocketAddrV4
@@ -134,7 +134,7 @@ abbrev pub registration_drop : ServerView → SocketAddrV4 → ℕ → Option Se
 registration_drop l from now =
     if is_node_taken l (node_of_place l.port from) then Some (NodeTaken (node_of_place l.port from))
     else if is_address_full now from l.clients then Some FullOfAddress
-    else if is_server_full l.most now l.clients then Some Full
+    else if is_server_full l.max_clients now l.clients then Some Full
     else None
 
 abbrev pub new_client_hears : ServerPort → Node → Option ServerDrop → Disposition
@@ -420,7 +420,7 @@ server_noting from now l =
 -- who sent from an address became a client, by the node of that
 abbrev pub server_admitting : SocketAddrV4 → ℕ → ServerView → ServerView
 server_admitting from now l = record l {
-  clients = clients_with l.most (node_of_place l.port from) from now l.clients;
+  clients = clients_with l.max_clients (node_of_place l.port from) from now l.clients;
   noted = noted_without from l.noted;
 }
 
@@ -468,7 +468,7 @@ copies_limit = record { burst = 200000; per_second = 100000 }
 abbrev pub joined_server : ServerPort → ℕ → List SocketAddrV4 → ServerView
 joined_server port most routers = record {
   port = port;
-  most = most;
+  max_clients = most;
   clients = [];
   counts = no_drops;
   routers = routers;

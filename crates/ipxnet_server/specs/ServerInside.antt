@@ -17,7 +17,7 @@ use Rattle.ipxnet_server.specs.PeerServers.{is_joined_place, max_remote_clients}
 
 -- how many clients there may be, and the clients
 pub record ClientsView : Type 0 where
-  pub most : ℕ
+  pub max_clients : ℕ
   pub known : List Client
 
 -- what holds for the clients of a server: no more than allowed, each once, few of each IP address, and memory
@@ -45,7 +45,7 @@ pub record AreRemoteClients (routers : List SocketAddrV4) (far : List RemoteClie
 pub data MayKnow (from : SocketAddrV4) (now : ℕ) (old new : ServerView) : Type 0 where
   Same : new ≡ old → MayKnow from now old new
   Known : is_joined_place from old.routers ≡ false → client_at from old.clients ≡ None
-      → is_address_full now from old.clients ≡ false → is_server_full old.most now old.clients ≡ false
+      → is_address_full now from old.clients ≡ false → is_server_full old.max_clients now old.clients ≡ false
       → new ≡ server_admitting from now old → MayKnow from now old new
 
 -- what comes from a joined router goes to no joined router and not to the core, and is not answered

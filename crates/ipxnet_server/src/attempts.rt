@@ -2,7 +2,7 @@
 
 ghost use Rattle.std.specs.Prelude.{◌≡◌, ◌≤◌, [], IfOk, None, length};
 ghost use Rattle.std.specs.Vec.{vec_capacity, vec_len};
-ghost use Rattle.ipxnet_server.specs.Attempts.{attempts_after, attempts_left, attempts_of_ip, attempts_of_other_ips, attempts_with, is_attempt_of_ip, is_told_attempt, max_attempts, no_repeats, repeats_raised};
+ghost use Rattle.ipxnet_server.specs.Attempts.{attempts_after, attempts_left, attempts_of_ip, attempts_of_other_ips, attempts_with, is_attempt_of_ip, is_logged_attempt, max_attempts, no_repeats, repeats_raised};
 
 use crate::counts::saturating_increment;
 use std::alloc::{AllocError, Global};

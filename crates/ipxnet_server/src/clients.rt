@@ -40,7 +40,7 @@ pub struct Client {
 #[derive(Drop)]
 pub struct Clients {
     known: Vec<Client>,
-    most: usize,
+    max_clients: usize,
 }
 
 impl Model for Clients {
@@ -49,9 +49,9 @@ impl Model for Clients {
 
     ghost Value = { ClientsView };
 
-    ghost view = { λ c. record { most = c.most; known = c.known.items } };
+    ghost view = { λ c. record { max_clients = c.max_clients; known = c.known.items } };
 
-    ghost invariant = { λ c. AreClients c.most c.known.items (vec_capacity c.known) };
+    ghost invariant = { λ c. AreClients c.max_clients c.known.items (vec_capacity c.known) };
 }
 
 /// Removes the client at an address.
@@ -94,14 +94,14 @@ fn leave_out_silent(known: &mut Vec<Client>, now: u64)
 }
 
 /// Removes the client that was heard before all others, if there is no room for another.
-fn make_space(known: &mut Vec<Client>, most: usize)
-    requires some { 1 ≤ most }
-    requires few { vec_len known.old ≤ most }
-    ensures items { known.new.items ≡ drop (length known.old.items + 1 - most) known.old.items }
-    ensures room { vec_len known.new < most }
+fn make_space(known: &mut Vec<Client>, max_clients: usize)
+    requires some { 1 ≤ max_clients }
+    requires few { vec_len known.old ≤ max_clients }
+    ensures items { known.new.items ≡ drop (length known.old.items + 1 - max_clients) known.old.items }
+    ensures room { vec_len known.new < max_clients }
     ensures capacity { vec_capacity known.new ≡ vec_capacity known.old }
 {
-    if known.len() == most {
+    if known.len() == max_clients {
         known.remove(0);
     }
 }
@@ -156,13 +156,13 @@ fn one_that_goes(known: &[Client], place: SocketAddrV4) -> Option<Client>
 
 impl Clients {
     /// No clients yet. This takes the memory for all of them.
-    pub fn new(alloc: Global, most: usize) -> Result<Clients, AllocError>
-        requires some { 1 ≤ most }
-        requires few { most ≤ max_server_clients }
-        ensures { IfOk result (λ c. c ≡ record { most = most; known = [] }) }
+    pub fn new(alloc: Global, max_clients: usize) -> Result<Clients, AllocError>
+        requires some { 1 ≤ max_clients }
+        requires few { max_clients ≤ max_server_clients }
+        ensures { IfOk result (λ c. c ≡ record { max_clients = max_clients; known = [] }) }
     {
-        let known = Vec::with_capacity(alloc, most)?;
-        Ok(Clients { known, most })
+        let known = Vec::with_capacity(alloc, max_clients)?;
+        Ok(Clients { known, max_clients })
     }
 
     /// The clients, in the order in which they were last heard.
@@ -170,8 +170,8 @@ impl Clients {
         ensures all { result.now ≡ self.now.known }
         ensures once { EachClientOnce self.now.known }
         ensures each { AreFewOfEachIp self.now.known }
-        ensures few { length self.now.known ≤ self.now.most }
-        ensures most { self.now.most ≤ max_server_clients }
+        ensures few { length self.now.known ≤ self.now.max_clients }
+        ensures max_clients { self.now.max_clients ≤ max_server_clients }
     {
         &self.known
     }
@@ -179,7 +179,7 @@ impl Clients {
     /// Forgets the clients that were silent for five minutes.
     pub fn age(&mut self, now: u64)
         ensures left { self.new ≡ record self.old { known = clients_left now self.old.known } }
-        ensures few { length self.new.known ≤ self.new.most }
+        ensures few { length self.new.known ≤ self.new.max_clients }
         ensures once { EachClientOnce self.new.known }
     {
         leave_out_silent(&mut self.known, now);
@@ -220,9 +220,9 @@ impl Clients {
     /// Whether there is no room for one more: there are as many as allowed, all heard within the
     /// last minute.
     pub fn is_full(&self, now: u64) -> bool
-        ensures { result ≡ is_server_full self.now.most now self.now.known }
+        ensures { result ≡ is_server_full self.now.max_clients now self.now.known }
     {
-        if self.known.len() < self.most {
+        if self.known.len() < self.max_clients {
             return false;
         }
         match self.known.first() {
@@ -238,13 +238,13 @@ impl Clients {
         requires no_client { client_at place self.old.known ≡ None }
         requires free { client_of_node node self.old.known ≡ None }
         ensures put { self.new ≡ record self.old {
-          known = clients_with self.old.most node place now self.old.known;
+          known = clients_with self.old.max_clients node place now self.old.known;
         } }
-        ensures few { length self.new.known ≤ self.new.most }
+        ensures few { length self.new.known ≤ self.new.max_clients }
     {
         let goes = one_that_goes(&self.known, place);
         leave_out_one(&mut self.known, goes);
-        make_space(&mut self.known, self.most);
+        make_space(&mut self.known, self.max_clients);
         let last = self.known.len();
         let client = Client {
             node,
@@ -260,7 +260,7 @@ impl Clients {
         ensures heard { self.new ≡ record self.old {
           known = clients_heard place now self.old.known;
         } }
-        ensures few { length self.new.known ≤ self.new.most }
+        ensures few { length self.new.known ≤ self.new.max_clients }
     {
         let Some(client) = self.at(place) else {
             return;

@@ -10,10 +10,10 @@ ghost use Rattle.ipxnet_server.specs.ServerClients.{client_at};
 ghost use Rattle.ipxnet_server.specs.ServerFloods.{packet_gives, server_giving};
 ghost use Rattle.ipxnet_server.specs.ServerHears.{is_from_server, is_joined_taker, server_aged, server_gives};
 
-use crate::drops::ServerDrop;
-use crate::hearing::{
+use crate::datagrams::{
     comes_from_here, header_of, is_for_service, is_too_long, joined_takers_of, takers_of_all,
 };
+use crate::drops::ServerDrop;
 use crate::recipients::Recipients;
 use crate::server::IpxnetServer;
 use ipx_wire::{IpxHeader, Node};

@@ -15,12 +15,12 @@ mod attempts;
 mod client_node;
 mod clients;
 mod counts;
+mod datagrams;
+mod deciding;
 mod disposition;
 mod drops;
 mod flooders;
 mod giving;
-mod hearing;
-mod judging;
 mod laws;
 mod limiting;
 mod noted;
@@ -42,9 +42,9 @@ pub use clients::{
     Client, FORGOTTEN_AFTER_MS, MAX_ADDRESS_CLIENTS, MAX_CLIENTS, REPLACED_AFTER_MS,
 };
 pub use counts::ServerCounts;
+pub use datagrams::{MAX_CLIENT_BYTES, SERVER_SOCKET};
 pub use disposition::Disposition;
 pub use drops::ServerDrop;
-pub use hearing::{MAX_CLIENT_BYTES, SERVER_SOCKET};
 pub use laws::{
     asks_are_late, asks_are_two, clients_flood_seldom, clients_showed_their_nodes,
     copies_are_limited, no_given_packet_shows_a_client, only_silent_clients_are_pinged,

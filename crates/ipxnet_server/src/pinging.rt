@@ -5,8 +5,8 @@ ghost use Rattle.ipx_wire.specs.Ipx.{IsIpx, packet_of};
 ghost use Rattle.ipxnet_server.specs.Pings.{IsNextPing};
 ghost use Rattle.ipxnet_server.specs.ServerHears.{is_ping_due, router_ping, server_pinging};
 
+use crate::datagrams::ping_from;
 use crate::disposition::bytes_of;
-use crate::hearing::ping_from;
 use crate::pings::{PingTurn, next_ask, next_ping, sooner};
 use crate::server::IpxnetServer;
 use ipx_wire::IPX_HEADER_SIZE;

@@ -23,10 +23,10 @@ use crate::attempts::{Attempts, Repeats};
 use crate::client_node::node_of;
 use crate::clients::{Client, Clients, MAX_CLIENTS};
 use crate::counts::ServerCounts;
+use crate::datagrams::header_of;
 use crate::disposition::Disposition;
 use crate::drops::ServerDrop;
 use crate::flooders::Flooders;
-use crate::hearing::header_of;
 use crate::limiting::{COPIES_LIMIT, LimitedFlood};
 use crate::noted::{Noted, NotedPlaces};
 use crate::peer_servers::{Joined, RemoteClient};
@@ -63,7 +63,7 @@ impl Model for IpxnetServer {
 
     ghost view = { λ l. record {
       port = l.port;
-      most = l.clients.most;
+      max_clients = l.clients.max_clients;
       clients = l.clients.known;
       counts = l.counts;
       routers = l.joined.routers;
@@ -81,20 +81,24 @@ impl Model for IpxnetServer {
 
 impl IpxnetServer {
     /// Whether a server may be limited to `most` clients: 1 to `MAX_CLIENTS`.
-    pub fn may_have(most: usize) -> bool
-        ensures { result ≡ (nat_le 1 most && nat_le most max_server_clients) }
+    pub fn may_have(max_clients: usize) -> bool
+        ensures { result ≡ (nat_le 1 max_clients && nat_le max_clients max_server_clients) }
     {
-        1 <= most && most <= MAX_CLIENTS
+        1 <= max_clients && max_clients <= MAX_CLIENTS
     }
 
     /// A server of a port, with at most `most` clients, which must be 1 to 150. It is joined to no
     /// router, and knows no client. Only this and `IpxnetServer::joined_to` allocate memory.
-    pub fn new(alloc: Global, port: ServerPort, most: usize) -> Result<IpxnetServer, AllocError>
-        requires some { 1 ≤ most }
-        requires few { most ≤ max_server_clients }
-        ensures { IfOk result (λ l. l ≡ new_server port most) }
+    pub fn new(
+        alloc: Global,
+        port: ServerPort,
+        max_clients: usize,
+    ) -> Result<IpxnetServer, AllocError>
+        requires some { 1 ≤ max_clients }
+        requires few { max_clients ≤ max_server_clients }
+        ensures { IfOk result (λ l. l ≡ new_server port max_clients) }
     {
-        IpxnetServer::joined_to(alloc, port, most, Vec::new(alloc))
+        IpxnetServer::joined_to(alloc, port, max_clients, Vec::new(alloc))
     }
 
     /// The same server, joined to those of the routers at these addresses as one network. Each of
@@ -103,14 +107,14 @@ impl IpxnetServer {
     pub fn joined_to(
         alloc: Global,
         port: ServerPort,
-        most: usize,
+        max_clients: usize,
         routers: Vec<SocketAddrV4>,
     ) -> Result<IpxnetServer, AllocError>
-        requires some { 1 ≤ most }
-        requires few { most ≤ max_server_clients }
-        ensures { IfOk result (λ l. l ≡ joined_server port most routers.items) }
+        requires some { 1 ≤ max_clients }
+        requires few { max_clients ≤ max_server_clients }
+        ensures { IfOk result (λ l. l ≡ joined_server port max_clients routers.items) }
     {
-        let clients = Clients::new(alloc, most)?;
+        let clients = Clients::new(alloc, max_clients)?;
         let joined = Joined::new(alloc, routers)?;
         let noted = NotedPlaces::new(alloc)?;
         let attempts = Attempts::new(alloc)?;
@@ -150,8 +154,8 @@ impl IpxnetServer {
         ensures once { EachClientOnce self.now.clients }
         ensures each { AreFewOfEachIp self.now.clients }
         ensures nodes { All (HasPlaceNode self.now.port) self.now.clients }
-        ensures few { length self.now.clients ≤ self.now.most }
-        ensures most { self.now.most ≤ max_server_clients }
+        ensures few { length self.now.clients ≤ self.now.max_clients }
+        ensures max_clients { self.now.max_clients ≤ max_server_clients }
     {
         self.clients.all()
     }
@@ -226,7 +230,7 @@ impl IpxnetServer {
         requires free { client_of_node (node_of_place self.old.port from) self.old.clients
             ≡ None }
         ensures admits { self.new ≡ server_admitting from now self.old }
-        ensures few { length self.new.clients ≤ self.new.most }
+        ensures few { length self.new.clients ≤ self.new.max_clients }
     {
         self.noted.forget(from);
         self.clients.put(node_of(self.port, from), from, now);
@@ -254,12 +258,12 @@ impl IpxnetServer {
 
     /// Makes the sender of a datagram a client, if its packet does that.
     fn meet(&mut self, from: SocketAddrV4, bytes: &[u8], now: u64)
-        requires few { length self.old.clients ≤ self.old.most }
+        requires few { length self.old.clients ≤ self.old.max_clients }
         ensures packet { (p : PacketView) → BeginsWith bytes.now p
             → self.new ≡ server_met from p.header (length bytes.now) now self.old }
         ensures malformed { (f : IpxFault) → ipx_fault bytes.now ≡ Some f → self.new ≡ self.old }
         ensures known { MayKnow from now self.old self.new }
-        ensures few { length self.new.clients ≤ self.new.most }
+        ensures few { length self.new.clients ≤ self.new.max_clients }
     {
         let Some(header) = header_of(bytes) else {
             return;
@@ -304,7 +308,7 @@ impl IpxnetServer {
     /// silent for a day, and the noted addresses whose second ping was due at the last turn.
     pub(crate) fn age(&mut self, now: u64)
         ensures aged { self.new ≡ server_aged now self.old }
-        ensures few { length self.new.clients ≤ self.new.most }
+        ensures few { length self.new.clients ≤ self.new.max_clients }
         ensures once { EachClientOnce self.new.clients }
     {
         self.clients.age(now);
@@ -332,7 +336,7 @@ impl IpxnetServer {
             → self.new ≡ server_heard self.old from p (length bytes.now) now }
         ensures unread { (f : IpxFault) → ipx_fault bytes.now ≡ Some f
             → self.new ≡ server_dropping (Malformed f) (server_aged now self.old) }
-        ensures stays { (self.new.port ≡ self.old.port) × (self.new.most ≡ self.old.most)
+        ensures stays { (self.new.port ≡ self.old.port) × (self.new.max_clients ≡ self.old.max_clients)
             × (self.new.routers ≡ self.old.routers) × (self.new.pinged ≡ self.old.pinged) }
         // It is never sent back to its sender, except as an answer. A registration has an answer of
         // as many bytes.

@@ -13,7 +13,7 @@ use Rattle.ipx_router.specs.declared.route.Route.{Route}
 use Rattle.ipx_router.specs.Hearing.{is_heard, route_metric}
 use Rattle.ipx_router.specs.Knowledge.{Routes}
 use Rattle.ipx_router.specs.RouteChoice.{IsHeardRoute, IsRouteOrNone, IsRouteTo, direct_route, over_neighbour, over_port}
-use Rattle.ipx_router.specs.Told.{advertised_route}
+use Rattle.ipx_router.specs.AdvertisedEntries.{advertised_route}
 use Rattle.rip_convergence.specs.TableLaws.{LawsOfTables}
 use Rattle.rip_convergence.specs.Histories.{Clock, HasAsGood, Internet, IsHistory, Owns, Routing, TellsRoute, WasAdvertised, better_route, is_foreign, advertised_metric}
 use Rattle.rip_convergence.specs.RouterRuns.{AllIsHeard, AreRoutes, Hearing, IsRun, NodesDiffer, NothingForged, Saying, TellsTo, IsInAdvertisement}

@@ -4,13 +4,13 @@ use Rattle.ipx_wire.specs.Ipx.{PacketView, IsIpx, ipx_fault}
 use Rattle.ipx_control.specs.Rip.{RipView, IsRip, rip_fault}
 use Rattle.ipx_control.specs.Rip as rip
 use Rattle.ipx_tables.specs.Content.{after_age}
-use Rattle.ipx_router.specs.declared.classify.Concern.{Concern}
-use Rattle.ipx_router.specs.declared.classify.Concern.TheVariants as concerns
+use Rattle.ipx_router.specs.declared.classify.PacketClass.{PacketClass}
+use Rattle.ipx_router.specs.declared.classify.PacketClass.TheVariants as classes
 use Rattle.ipx_router.specs.declared.port.Port.{Port}
 use Rattle.ipx_router.specs.declared.port.PortNow.{PortNow}
 use Rattle.ipx_router.specs.declared.reason.Reason.TheVariants.{Bad, BadControl}
-use Rattle.ipx_router.specs.Answer.{AnswersBytes, AnswersByConcern, AnswersPacket, AnswersRip, AnswersRipMessage}
-use Rattle.ipx_router.specs.Classify.{concern_of}
+use Rattle.ipx_router.specs.Answer.{AnswersBytes, AnswersByClass, AnswersPacket, AnswersRip, AnswersRipMessage}
+use Rattle.ipx_router.specs.Classify.{class_of}
 use Rattle.ipx_router.specs.Hearing.{source_of}
 use Rattle.ipx_router.specs.Knowledge.{HoldsKnown, HoldsRoutes, known_at, routes_in, tables}
 use Rattle.ipx_router.specs.OutcomeView.{OutcomeView, Forward, Replies, Heard, Dropped}
@@ -49,17 +49,17 @@ module _ (old new : RouterView) (port : ℕ) (bytes : List ℕ) (now : ℕ) (arr
       go None h = by_message d tail ipx a h.0 h.1 h.2 h.3
       go (Some f) h = nothing h.1
 
-  by_concern : (d : PacketView) (tail : List ℕ) → IsIpx d bytes tail → (a : OutcomeView) (k : Concern) → AnswersByConcern (known_at old now) at d a (tables new) k → IsRunStep old port bytes now new
-  by_concern d tail ipx a (concerns.Dropped reason) h = nothing h.1.routes
-  by_concern d tail ipx a concerns.Rip h = by_rip d tail ipx a h.0
-  by_concern d tail ipx a concerns.Sap h = nothing h.1
-  by_concern d tail ipx a concerns.Forward h = nothing h.1.routes
+  by_class : (d : PacketView) (tail : List ℕ) → IsIpx d bytes tail → (a : OutcomeView) (k : PacketClass) → AnswersByClass (known_at old now) at d a (tables new) k → IsRunStep old port bytes now new
+  by_class d tail ipx a (classes.Dropped reason) h = nothing h.1.routes
+  by_class d tail ipx a classes.Rip h = by_rip d tail ipx a h.0
+  by_class d tail ipx a classes.Sap h = nothing h.1
+  by_class d tail ipx a classes.Forward h = nothing h.1.routes
 
   by_bytes : (a : OutcomeView) → AnswersBytes (known_at old now) at bytes a (tables new) → IsRunStep old port bytes now new
   by_bytes a h = go (ipx_fault bytes) h
     where
       go : (o : Option _) → MatchOption o (AnswersPacket (known_at old now) at bytes a (tables new)) (λ f. (a ≡ Dropped (Bad f)) × HoldsKnown (known_at old now) (tables new)) → IsRunStep old port bytes now new
-      go None h = by_concern h.0 h.1 h.2 a (concern_of arrived h.0.header) h.3
+      go None h = by_class h.0 h.1 h.2 a (class_of arrived h.0.header) h.3
       go (Some f) h = nothing h.1.routes
 
 pub receiving : ReceivingIsAStep

@@ -21,15 +21,15 @@ use Rattle.ipx_tables.specs.declared.source.Source.{Source}
 use Rattle.ipx_tables.specs.Best.{IsBest}
 use Rattle.ipx_tables.specs.Content.{Table, after_age, is_same, is_young, still}
 use Rattle.ipx_tables.specs.Route.{network_cmp, route_before, route_dead}
-use Rattle.ipx_router.specs.declared.classify.Concern.{Concern}
-use Rattle.ipx_router.specs.declared.classify.Concern.TheVariants as concerns
+use Rattle.ipx_router.specs.declared.classify.PacketClass.{PacketClass}
+use Rattle.ipx_router.specs.declared.classify.PacketClass.TheVariants as classes
 use Rattle.ipx_router.specs.declared.packets.Recipient.{Recipient}
 use Rattle.ipx_router.specs.declared.port.Port.{Port}
 use Rattle.ipx_router.specs.declared.port.PortNow.{PortNow}
 use Rattle.ipx_router.specs.declared.reason.Reason.TheVariants.{Bad, BadControl, TableFull}
 use Rattle.ipx_router.specs.declared.route.Route.{Route}
-use Rattle.ipx_router.specs.Answer.{AnswersByConcern, AnswersBytes, AnswersPacket, AnswersRipMessage, HearsRoutes, Receives}
-use Rattle.ipx_router.specs.Classify.{concern_of, is_node}
+use Rattle.ipx_router.specs.Answer.{AnswersByClass, AnswersBytes, AnswersPacket, AnswersRipMessage, HearsRoutes, Receives}
+use Rattle.ipx_router.specs.Classify.{class_of, is_node}
 use Rattle.ipx_router.specs.Hearing.{after_route, after_routes, is_heard, route_metric}
 use Rattle.ipx_router.specs.Knowledge.{HoldsKnown, HoldsRoutes, Routes, Services, known_at, routes_in, tables}
 use Rattle.ipx_router.specs.OutcomeView.{OutcomeView, Forward, Replies, Heard, Dropped}
@@ -37,8 +37,8 @@ use Rattle.ipx_router.specs.RouterPackets.{AreCutOf, AreRoutePackets, AreService
 use Rattle.ipx_router.specs.Ports.{IsPort}
 use Rattle.ipx_router.specs.RouteChoice.{direct_route}
 use Rattle.ipx_router.specs.RouterView.{RouterView}
-use Rattle.ipx_router.specs.Telling.{AreAdvertisements, AreAdvertised, is_due}
-use Rattle.ipx_router.specs.Told.{IsAdvertisedRoute}
+use Rattle.ipx_router.specs.Advertisements.{AreAdvertisements, AreAdvertised, is_due}
+use Rattle.ipx_router.specs.AdvertisedEntries.{IsAdvertisedRoute}
 use Rattle.rip_convergence.specs.PacketLaws.{LawsOfPackets}
 use Rattle.rip_convergence.specs.LearnedAdvertisements.{ReceivesInTurn, AdvertisementsAreLearned, leaving_by}
 use Rattle.rip_convergence.proofs.Hearing.{Word, one_word, step_is, still_is, still_was}
@@ -220,10 +220,10 @@ module _ (near far : Port) (one_network : far.network ≡ near.network) (two_nod
   on_network : (far.network.0 == near.network.0) ≡ true
   on_network = eq-eqb far.network.0 near.network.0 (ap (λ (n : Network). n.0) one_network)
 
-  rip_is : concern_of near (own_header (all_nodes q far rip_socket) rip_type rip_socket) ≡ concerns.Rip
+  rip_is : class_of near (own_header (all_nodes q far rip_socket) rip_type rip_socket) ≡ classes.Rip
   rip_is = simp (on_network, not_node far.node near.node two_nodes, or-true) refl
 
-  sap_is : concern_of near (own_header (all_nodes q far sap_socket) packet_exchange_type sap_socket) ≡ concerns.Sap
+  sap_is : class_of near (own_header (all_nodes q far sap_socket) packet_exchange_type sap_socket) ≡ classes.Sap
   sap_is = simp (on_network, not_node far.node near.node two_nodes, or-true) refl
 
   module _ (laws : LawsOfPackets) (p now : ℕ) where
@@ -236,17 +236,17 @@ module _ (near far : Port) (one_network : far.network ≡ near.network) (two_nod
     abbrev packet_of : ℕ → ℕ → List ℕ → PacketView
     packet_of kind socket body = record { header = own_header (all_nodes q far socket) kind socket; body = body }
 
-    by_concern : (old : RouterView) (kind socket : ℕ) (body bytes : List ℕ) (a : OutcomeView) (new : RouterView) (k : Concern)
-        → concern_of near (own_header (all_nodes q far socket) kind socket) ≡ k → IsIpx (packet_of kind socket body) bytes []
-        → IsPort old.ports p near → Receives old p bytes now a new → AnswersByConcern (known_at old now) at (packet_of kind socket body) a (tables new) k
-    by_concern old kind socket body bytes a new k concern is at_near h =
+    by_class : (old : RouterView) (kind socket : ℕ) (body bytes : List ℕ) (a : OutcomeView) (new : RouterView) (k : PacketClass)
+        → class_of near (own_header (all_nodes q far socket) kind socket) ≡ k → IsIpx (packet_of kind socket body) bytes []
+        → IsPort old.ports p near → Receives old p bytes now a new → AnswersByClass (known_at old now) at (packet_of kind socket body) a (tables new) k
+    by_class old kind socket body bytes a new k packet_class is at_near h =
         let d = packet_of kind socket body in
         let arrived : h.answers.0 ≡ near = some_same h.answers.0 near (sym h.answers.1.1 ∙ at_near.1) in
         let here : AnswersBytes (known_at old now) at bytes a (tables new) = subst (λ (port : Port). AnswersBytes (known_at old now) (record { number = p; port = port; now = now }) bytes a (tables new)) arrived h.answers.2 in
         let read = of_none (AnswersPacket (known_at old now) at bytes a (tables new)) (λ f. (a ≡ Dropped (Bad f)) × HoldsKnown (known_at old now) (tables new)) (ipx_fault bytes) (laws.no_ipx_fault d bytes [] is) here in
         let same : read.0 ≡ d = (laws.one_ipx read.0 d bytes read.1 [] read.2 is).0 in
-        subst (λ c. AnswersByConcern (known_at old now) at d a (tables new) c) concern
-        (subst (λ (e : PacketView). AnswersByConcern (known_at old now) at e a (tables new) (concern_of near e.header)) same read.3)
+        subst (λ c. AnswersByClass (known_at old now) at d a (tables new) c) packet_class
+        (subst (λ (e : PacketView). AnswersByClass (known_at old now) at e a (tables new) (class_of near e.header)) same read.3)
 
     hears_part : (ports : List Port) (routes : Routes) (part : List RipEntry) (a : OutcomeView) (new : Table Network RouteMetric) → (a ≢ Dropped TableFull) → HearsRoutes ports routes source now part a new
         → (x : Network × Source) → routes_in new x ≡ after_routes ports source now routes part x
@@ -262,7 +262,7 @@ module _ (near far : Port) (one_network : far.network ≡ near.network) (two_nod
         let own : IsRipPacket (all_nodes q far rip_socket) (rip.Response part) s = is in
         let d = packet_of rip_type rip_socket own.body in
         let routes = after_age (routes_in old.routes) now in
-        let answers : AnswersByConcern (known_at old now) at d a (tables new) concerns.Rip = by_concern old rip_type rip_socket own.body s.bytes a new concerns.Rip rip_is own.packet.packet at_near h in
+        let answers : AnswersByClass (known_at old now) at d a (tables new) classes.Rip = by_class old rip_type rip_socket own.body s.bytes a new classes.Rip rip_is own.packet.packet at_near h in
         let read = of_none ((m : RipView) × (tail : List ℕ) × IsRip m own.body tail × AnswersRipMessage old.ports routes at d.header m a new.routes) (λ f. (a ≡ Dropped (BadControl f)) × HoldsRoutes new.routes routes) (rip_fault own.body) (laws.no_rip_fault (rip.Response part) own.body [] own.says) answers.0 in
         let same : read.0 ≡ rip.Response part = (laws.one_rip read.0 (rip.Response part) own.body read.1 [] read.2 own.says).0 in
         hears_part old.ports routes part a new.routes room (subst (λ m. AnswersRipMessage old.ports routes at d.header m a new.routes) same read.3)
@@ -272,7 +272,7 @@ module _ (near far : Port) (one_network : far.network ≡ near.network) (two_nod
         → (x : Network × Source) → routes_in new.routes x ≡ after_age (routes_in old.routes) now x
     ages_sap old part s a new is at_near h =
         let own : IsSapPacket (all_nodes q far sap_socket) (sap.Response false part) s = is in
-        let answers : AnswersByConcern (known_at old now) at (packet_of packet_exchange_type sap_socket own.body) a (tables new) concerns.Sap = by_concern old packet_exchange_type sap_socket own.body s.bytes a new concerns.Sap sap_is own.packet.packet at_near h in
+        let answers : AnswersByClass (known_at old now) at (packet_of packet_exchange_type sap_socket own.body) a (tables new) classes.Sap = by_class old packet_exchange_type sap_socket own.body s.bytes a new classes.Sap sap_is own.packet.packet at_near h in
         answers.1
 
     abbrev Receiving : RouterView → List SendingView → RouterView → Type 0
@@ -379,7 +379,7 @@ heard laws net s q r p meet teller old new now sent told theirs ours apart due t
     let known = known_at teller now in
     let at : PortNow = record { number = q; port = meet.far; now = now } in
     let source : Source = record { port = p; neighbour = meet.far.node } in
-    let tellings = (of_true (AreAdvertisements teller.ports known.routes known.services now 1 teller.ports sent × (told ≡ Some now)) ((sent ≡ []) × (told ≡ teller.told)) (is_due teller.told now) due tells).0 in
+    let tellings = (of_true (AreAdvertisements teller.ports known.routes known.services now 1 teller.ports sent × (told ≡ Some now)) ((sent ≡ []) × (told ≡ teller.advertised_at)) (is_due teller.advertised_at now) due tells).0 in
     let there : slice_get teller.ports (q - 1) ≡ Some meet.far = ap (λ ports. slice_get ports (q - 1)) theirs ∙ meet.at_far.1 in
     let t = told_on teller.ports known.routes known.services now teller.ports 1 (q - 1) q (omega (arith, meet.at_far.0)) meet.far sent there tellings in
     let at_near : IsPort old.ports p meet.near = subst (λ ports. IsPort ports p meet.near) (sym ours) meet.at_near in

@@ -14,7 +14,7 @@ use Rattle.ipx_router.specs.declared.route.Route.{Route}
 use Rattle.ipx_router.specs.Hearing.{after_routes}
 use Rattle.ipx_router.specs.Knowledge.{Routes}
 use Rattle.ipx_router.specs.RouteChoice.{IsHeardRoute, IsRouteOrNone, direct_route, over_neighbour, over_port}
-use Rattle.ipx_router.specs.Told.{IsAdvertisedRoute, advertised_route}
+use Rattle.ipx_router.specs.AdvertisedEntries.{IsAdvertisedRoute, advertised_route}
 use Rattle.rip_convergence.specs.Fair.{IsFairRun}
 use Rattle.rip_convergence.specs.Histories.{Meet, Owns, Routing, TellsRoute, as_offer, better_route}
 use Rattle.rip_convergence.specs.RouterRuns.{AllIsHeard, AreRoutes, Hearing, IsRun, NodesDiffer, NothingForged, Saying, TellsTo, IsInAdvertisement}

@@ -12,7 +12,7 @@ use Rattle.ipx_router.specs.declared.port.Port.{Port}
 use Rattle.ipx_router.specs.declared.route.Route.{Route}
 use Rattle.ipx_router.specs.Ports.{IsPort}
 use Rattle.ipx_router.specs.RouteChoice.{direct_route, over_neighbour, over_port}
-use Rattle.ipx_router.specs.Told.{advertised_hops, advertised_ticks}
+use Rattle.ipx_router.specs.AdvertisedEntries.{advertised_hops, advertised_ticks}
 
 -- the routers of a network, by index: the ports of each
 abbrev pub Internet : Type 0

@@ -12,8 +12,8 @@ use Rattle.ipx_router.specs.Knowledge.{known_at, routes_in}
 use Rattle.ipx_router.specs.OutcomeView.{OutcomeView, Dropped}
 use Rattle.ipx_router.specs.RouterPackets.{SendingView}
 use Rattle.ipx_router.specs.RouterView.{RouterView}
-use Rattle.ipx_router.specs.Telling.{TellsIfDue, is_due}
-use Rattle.ipx_router.specs.Told.{IsAdvertisedRoute}
+use Rattle.ipx_router.specs.Advertisements.{TellsIfDue, is_due}
+use Rattle.ipx_router.specs.AdvertisedEntries.{IsAdvertisedRoute}
 use Rattle.rip_convergence.specs.Histories.{Internet, Meet}
 
 -- those of the packets that leave by a port
@@ -40,7 +40,7 @@ abbrev pub AdvertisementsAreLearned : Type 0
 AdvertisementsAreLearned = (net : Internet) (s q r p : ℕ) (meet : Meet net s q r p)
     (teller old new : RouterView) (now : ℕ) (sent : List SendingView) (told : Option ℕ)
     → teller.ports ≡ meet.theirs → old.ports ≡ meet.ours → meet.far.node ≢ meet.near.node
-    → is_due teller.told now ≡ true → TellsIfDue (known_at teller now) teller.told now sent told
+    → is_due teller.advertised_at now ≡ true → TellsIfDue (known_at teller now) teller.advertised_at now sent told
     → ReceivesInTurn p now old (leaving_by q sent) new
     → (entries : List RipEntry)
     × HearsEntries p now (record { port = p; neighbour = meet.far.node }) old

@@ -10,7 +10,7 @@ use Rattle.ipx_router.specs.declared.port.Port.{Port}
 use Rattle.ipx_router.specs.Hearing.{after_routes}
 use Rattle.ipx_router.specs.Knowledge.{Routes}
 use Rattle.ipx_router.specs.RouteChoice.{IsRouteOrNone}
-use Rattle.ipx_router.specs.Told.{IsAdvertisedRoute}
+use Rattle.ipx_router.specs.AdvertisedEntries.{IsAdvertisedRoute}
 use Rattle.rip_convergence.specs.Histories.{Clock, Internet, IsHistory, Meet, Routing}
 
 -- the router that learns, the source, and the entries that it took

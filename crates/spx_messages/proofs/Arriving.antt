@@ -124,13 +124,13 @@ accepted e bytes r now links parts id x request a =
       heard = refl;
     }
 
-deaf : (e : EndpointView) (bytes : List ℕ) (r : ConnectionPacket) → IsRead (home_of e) bytes r → IsRequestFor r.header → IsDeafTo e.listening e.links r → IsUnheard e bytes
-deaf e bytes r x request d = record {
+no_listener : (e : EndpointView) (bytes : List ℕ) (r : ConnectionPacket) → IsRead (home_of e) bytes r → IsRequestFor r.header → IsDeafTo e.listening e.links r → IsUnheard e bytes
+no_listener e bytes r x request d = record {
   packet = x.packet;
   header = r.header;
   body = r.body.now;
   asks = new_request e bytes r x request d.new;
-  deaf = buffers_to e bytes r x None d.deaf;
+  no_listener = buffers_to e bytes r x None d.no_listener;
 }
 
 full : (e : EndpointView) (bytes : List ℕ) (r : ConnectionPacket) → IsRead (home_of e) bytes r → IsRequestFor r.header → IsFullFor e.listening e.links r → IsOneTooMany e bytes
@@ -164,7 +164,7 @@ answers : (e : EndpointView) (bytes : List ℕ) (r : ConnectionPacket) (now : �
 answers e bytes r now links parts (Arriveds.Bad f) x request asked = absurd asked
 answers e bytes r now links parts Arriveds.NotOurs x request asked = absurd asked
 answers e bytes r now links parts (Arriveds.BadSpx f) x request asked = absurd asked
-answers e bytes r now links parts Arriveds.NoListener x request asked = (deaf e bytes r x request asked.0, unheard e links parts asked.1)
+answers e bytes r now links parts Arriveds.NoListener x request asked = (no_listener e bytes r x request asked.0, unheard e links parts asked.1)
 answers e bytes r now links parts Arriveds.NoRoom x request asked = (full e bytes r x request asked.0, unheard e links parts asked.1)
 answers e bytes r now links parts Arriveds.Stranger x request asked = absurd asked
 answers e bytes r now links parts (Arriveds.Accepted id) x request asked = accepted e bytes r now links parts id x request asked

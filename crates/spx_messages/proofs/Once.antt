@@ -163,7 +163,7 @@ one_full old now p h buffers a b new other x y =
 
 record Deaf (old : EndpointView) (p : PacketView) (a : Arrived) (new : EndpointView) : Type 0 where
   pub answer : a ≡ Arriveds.NoListener
-  pub deaf : buffers_at old p.header.to.socket ≡ None
+  pub no_listener : buffers_at old p.header.to.socket ≡ None
   pub unheard : Unheard old new
 
 record Listening (old : EndpointView) (now : ℕ) (p : PacketView) (h : SpxHeader) (a : Arrived) (new : EndpointView) : Type 0 where
@@ -180,8 +180,8 @@ one_listening old now p h a b new other x y =
 one_new : (old : EndpointView) (now : ℕ) (p : PacketView) (h : SpxHeader) (a b : Arrived) (new other : EndpointView) → Deaf old p a new ⊎ Listening old now p h a new → Deaf old p b other ⊎ Listening old now p h b other → One a b new other
 one_new old now p h a b new other x y =
     both x y (λ (v : Deaf old p a new) (w : Deaf old p b other). one_unheard a b Arriveds.NoListener old new other v.answer w.answer v.unheard w.unheard)
-    (λ (v : Deaf old p a new) (w : Listening old now p h b other). none_or_some (buffers_at old p.header.to.socket) w.buffers v.deaf w.listens)
-    (λ (v : Listening old now p h a new) (w : Deaf old p b other). none_or_some (buffers_at old p.header.to.socket) v.buffers w.deaf v.listens)
+    (λ (v : Deaf old p a new) (w : Listening old now p h b other). none_or_some (buffers_at old p.header.to.socket) w.buffers v.no_listener w.listens)
+    (λ (v : Listening old now p h a new) (w : Deaf old p b other). none_or_some (buffers_at old p.header.to.socket) v.buffers w.no_listener v.listens)
     (one_listening old now p h a b new other)
 
 -- ---- a request
@@ -378,9 +378,9 @@ asked : (old : EndpointView) (bytes : List ℕ) (now : ℕ) (p : PacketView) (h 
 asked old bytes now p h body a new x rest =
     came old bytes now p h body a new x.comes (inl (record { request = x.request; rest = inr (record { fresh = x.new; rest = rest }) }))
 
-deaf : (old : EndpointView) (bytes : List ℕ) (now : ℕ) (new : EndpointView) → IsUnheard old bytes → Unheard old new → Packet old bytes now Arriveds.NoListener new
-deaf old bytes now new x u =
-    asked old bytes now x.packet x.header x.body Arriveds.NoListener new x.asks (inl (record { answer = refl; deaf = x.deaf; unheard = u }))
+no_listener : (old : EndpointView) (bytes : List ℕ) (now : ℕ) (new : EndpointView) → IsUnheard old bytes → Unheard old new → Packet old bytes now Arriveds.NoListener new
+no_listener old bytes now new x u =
+    asked old bytes now x.packet x.header x.body Arriveds.NoListener new x.asks (inl (record { answer = refl; no_listener = x.no_listener; unheard = u }))
 
 full : (old : EndpointView) (bytes : List ℕ) (now : ℕ) (new : EndpointView) → IsOneTooMany old bytes → Unheard old new → Packet old bytes now Arriveds.NoRoom new
 full old bytes now new x u =
@@ -410,7 +410,7 @@ in_order : (old : EndpointView) (bytes : List ℕ) (now : ℕ) (a : Arrived) (ne
 in_order old bytes now (Arriveds.Bad f) new x = inl (record { f = f; answer = refl; fault = x.0; unheard = x.1 })
 in_order old bytes now Arriveds.NotOurs new x = inr (record { packet = x.0.packet; is = x.0.is; rest = inl (record { answer = refl; not = x.0.not; unheard = x.1 }) })
 in_order old bytes now (Arriveds.BadSpx f) new x = inr (record { packet = x.0.packet; is = x.0.is; rest = inr (record { ours = x.0.ours; rest = inl (record { f = f; answer = refl; fault = x.0.fault; unheard = x.1 }) }) })
-in_order old bytes now Arriveds.NoListener new x = inr (deaf old bytes now new x.0 x.1)
+in_order old bytes now Arriveds.NoListener new x = inr (no_listener old bytes now new x.0 x.1)
 in_order old bytes now Arriveds.NoRoom new x = inr (full old bytes now new x.0 x.1)
 in_order old bytes now Arriveds.Stranger new x = inr (strange old bytes now new x.0 x.1)
 in_order old bytes now (Arriveds.Accepted id) new x = inr (accepted old bytes now id new x)

@@ -59,7 +59,7 @@ pub record IsUnheard (e : EndpointView) (bytes : List ℕ) : Type 0 where
   pub header : SpxHeader
   pub body : List ℕ
   pub asks : IsNewRequest e packet header body bytes
-  pub deaf : buffers_at e packet.header.to.socket ≡ None
+  pub no_listener : buffers_at e packet.header.to.socket ≡ None
 
 pub record IsOneTooMany (e : EndpointView) (bytes : List ℕ) : Type 0 where
   pub packet : PacketView

@@ -102,7 +102,7 @@ pub record OwesReplyAgain (old new : LinksView) (r : ConnectionPacket) (id : ℕ
 -- the socket of the request does not listen
 pub record IsDeafTo (listening : List Listener) (s : LinksView) (r : ConnectionPacket) : Type 0 where
   pub new : IsNew s r
-  pub deaf : buffers_in listening r.to.0 ≡ None
+  pub no_listener : buffers_in listening r.to.0 ≡ None
 
 -- the socket listens, and there are as many links as there may be
 pub record IsFullFor (listening : List Listener) (s : LinksView) (r : ConnectionPacket) : Type 0 where

@@ -56,7 +56,7 @@ impl Endpoint {
         ensures nobody { (id : ℕ) → held_at result id ≡ None }
         ensures last { result.links.last ≡ 0 }
         ensures count { count_of result.links ≡ 0 }
-        ensures deaf { (socket : Socket) → buffers_at result socket ≡ None }
+        ensures no_listener { (socket : Socket) → buffers_at result socket ≡ None }
         ensures said { result.said ≡ None }
         ensures heard { result.heard ≡ None }
     {

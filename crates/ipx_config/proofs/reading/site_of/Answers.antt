@@ -9,18 +9,18 @@ use Rattle.ipx_config.proofs.Faults.{or_memory, right_if}
 use Rattle.ipx_config.proofs.Own.{own_of}
 use Rattle.ipx_config.proofs.reading.site_of.Goals as goal
 
-pub returns-in_err-tables-clause-fault : goal.returns-in_err-tables-clause-fault
-returns-in_err-tables-clause-fault c =
-    let p = err_from_is_err_and c.from_residual-in_err-tables.result c.from_residual-in_err-tables.ensures.1 in
+pub returns-in_err-tables_file-clause-fault : goal.returns-in_err-tables_file-clause-fault
+returns-in_err-tables_file-clause-fault c =
+    let p = err_from_is_err_and c.from_residual-in_err-tables_file.result c.from_residual-in_err-tables_file.ensures.1 in
     rw (p.1, p.2)
-    (or_memory _ (λ fault. inr (c.in_ok-refuse_unknown.ensures.known, inr (c.in_ok-status.status, c.in_ok-status.ensures, inl fault)))
-    c.in_err-tables.ensures)
+    (or_memory _ (λ fault. inr (c.in_ok-refuse_unknown.ensures.known, inr (c.in_ok-metrics_file.metrics_file, c.in_ok-metrics_file.ensures, inl fault)))
+    c.in_err-tables_file.ensures)
 
 pub returns-in_err-secret_file-clause-fault : goal.returns-in_err-secret_file-clause-fault
 returns-in_err-secret_file-clause-fault c =
     let p = err_from_is_err_and c.from_residual-in_err-secret_file.result c.from_residual-in_err-secret_file.ensures.1 in
     rw (p.1, p.2)
-    (or_memory _ (λ fault. inr (c.in_ok-refuse_unknown.ensures.known, inr (c.in_ok-status.status, c.in_ok-status.ensures, inr (c.in_ok-tables.tables, c.in_ok-tables.ensures, inl fault))))
+    (or_memory _ (λ fault. inr (c.in_ok-refuse_unknown.ensures.known, inr (c.in_ok-metrics_file.metrics_file, c.in_ok-metrics_file.ensures, inr (c.in_ok-tables_file.tables_file, c.in_ok-tables_file.ensures, inl fault))))
     c.in_err-secret_file.ensures)
 
 pub returns-in_err-values-clause-fault : goal.returns-in_err-values-clause-fault
@@ -31,9 +31,9 @@ returns-in_err-values-clause-fault c =
     (inr (inr (
       c.in_ok-refuse_unknown.ensures.known,
       inr (
-        c.in_ok-status.status,
-        c.in_ok-status.ensures,
-        inr (c.in_ok-tables.tables, c.in_ok-tables.ensures, inr (right_if (IsThirdFileName c.in_ok-status.status c.in_ok-tables.tables) Key.SecretFile ms c.in_ok-secret_file.secret_file c.in_ok-secret_file.ensures, inl c.in_err-values.ensures)),
+        c.in_ok-metrics_file.metrics_file,
+        c.in_ok-metrics_file.ensures,
+        inr (c.in_ok-tables_file.tables_file, c.in_ok-tables_file.ensures, inr (right_if (IsThirdFileName c.in_ok-metrics_file.metrics_file c.in_ok-tables_file.tables_file) Key.SecretFile ms c.in_ok-secret_file.secret_file c.in_ok-secret_file.ensures, inl c.in_err-values.ensures)),
       ),
     )))
 
@@ -45,9 +45,9 @@ returns-in_err-ports-clause-fault c =
     (or_memory _ (λ fault. inr (
       c.in_ok-refuse_unknown.ensures.known,
       inr (
-        c.in_ok-status.status,
-        c.in_ok-status.ensures,
-        inr (c.in_ok-tables.tables, c.in_ok-tables.ensures, inr (right_if (IsThirdFileName c.in_ok-status.status c.in_ok-tables.tables) Key.SecretFile ms c.in_ok-secret_file.secret_file c.in_ok-secret_file.ensures, inr (items_view c.in_ok-values.values.now, c.in_ok-values.ensures, inl fault))),
+        c.in_ok-metrics_file.metrics_file,
+        c.in_ok-metrics_file.ensures,
+        inr (c.in_ok-tables_file.tables_file, c.in_ok-tables_file.ensures, inr (right_if (IsThirdFileName c.in_ok-metrics_file.metrics_file c.in_ok-tables_file.tables_file) Key.SecretFile ms c.in_ok-secret_file.secret_file c.in_ok-secret_file.ensures, inr (items_view c.in_ok-values.values.now, c.in_ok-values.ensures, inl fault))),
       ),
     ))
     c.in_err-ports.ensures.fault)
@@ -65,9 +65,9 @@ returns-in_err-statics-clause-fault c =
     (or_memory _ (λ fault. inr (
       c.in_ok-refuse_unknown.ensures.known,
       inr (
-        c.in_ok-status.status,
-        c.in_ok-status.ensures,
-        inr (c.in_ok-tables.tables, c.in_ok-tables.ensures, inr (right_if (IsThirdFileName c.in_ok-status.status c.in_ok-tables.tables) Key.SecretFile ms c.in_ok-secret_file.secret_file c.in_ok-secret_file.ensures, inr (items_view c.in_ok-values.values.now, c.in_ok-values.ensures, inr (c.deref.result.now, ports, fault)))),
+        c.in_ok-metrics_file.metrics_file,
+        c.in_ok-metrics_file.ensures,
+        inr (c.in_ok-tables_file.tables_file, c.in_ok-tables_file.ensures, inr (right_if (IsThirdFileName c.in_ok-metrics_file.metrics_file c.in_ok-tables_file.tables_file) Key.SecretFile ms c.in_ok-secret_file.secret_file c.in_ok-secret_file.ensures, inr (items_view c.in_ok-values.values.now, c.in_ok-values.ensures, inr (c.deref.result.now, ports, fault)))),
       ),
     ))
     c.in_err-statics.ensures.fault)

@@ -13,7 +13,7 @@ pub loop-entry-init : goal.loop-entry-init
 loop-entry-init c = record {
   all = c.into_iter-entry-iterator.ensures.into_iter_gives;
   heard = heard_none network_cmp (after_routes (lone_port c.args.own) c.args.source c.args.now (routes_in c.args.routes.now)) c.args.entries c.args.routes.now c.requires (λ p. refl);
-  most = refl;
+  capacity = refl;
   valid = c.requires;
 }
 
@@ -43,11 +43,11 @@ loop-entry-preserved-in-Continue-1 c =
     let at = walked_to ys e c.next.new.self entries no_entry all in
     let one_more : length (ys ++ e ∷ []) ≡ i + 1 = length-append ys (e ∷ []) in
     let passes = sym c.is_route_heard.ensures ∙ c.if-is_route_heard.true in
-    let heard = heard_more ports c.args.source c.args.now entries (routes_in c.args.routes.now) i no_entry e at.0 at.1 c.loop-entry.routes old.heard c.hear.new.self c.hear.ensures.valid c.hear.ensures.most passes c.in_ok-hear.ensures.heard in
+    let heard = heard_more ports c.args.source c.args.now entries (routes_in c.args.routes.now) i no_entry e at.0 at.1 c.loop-entry.routes old.heard c.hear.new.self c.hear.ensures.valid c.hear.ensures.capacity passes c.in_ok-hear.ensures.heard in
     record {
       all = append_assoc ys (e ∷ []) c.next.new.self ∙ all;
       heard = subst (λ (n : ℕ). HeardRoutes ports c.args.source c.args.now entries (routes_in c.args.routes.now) n c.hear.new.self) (sym one_more) heard;
-      most = c.hear.ensures.most ∙ old.most;
+      capacity = c.hear.ensures.capacity ∙ old.capacity;
       valid = c.hear.ensures.valid;
     }
 
@@ -67,7 +67,7 @@ loop-entry-preserved c =
     record {
       all = append_assoc ys (e ∷ []) c.next.new.self ∙ all;
       heard = subst (λ (n : ℕ). HeardRoutes ports c.args.source c.args.now entries (routes_in c.args.routes.now) n c.loop-entry.routes) (sym one_more) heard;
-      most = old.most;
+      capacity = old.capacity;
       valid = old.valid;
     }
 

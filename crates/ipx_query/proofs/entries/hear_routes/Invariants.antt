@@ -10,6 +10,6 @@ abbrev pub invariant-loop-entry : goal.invariant-loop-entry
 invariant-loop-entry l = record {
   all : l.yielded ++ l.entry-iterator ≡ l.fn.entries;
   heard : HeardRoutes (lone_port l.own) l.source l.now l.fn.entries (routes_in l.fn.routes) (length l.yielded) l.routes;
-  most : l.routes.most ≡ l.fn.routes.most;
+  capacity : l.routes.capacity ≡ l.fn.routes.capacity;
   valid : IsTable network_cmp l.routes;
 }

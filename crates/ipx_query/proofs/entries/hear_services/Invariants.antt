@@ -9,6 +9,6 @@ abbrev pub invariant-loop-entry : goal.invariant-loop-entry
 invariant-loop-entry l = record {
   all : l.yielded ++ l.entry-iterator ≡ l.fn.entries;
   heard : HeardServices l.source l.now l.fn.entries (services_in l.fn.services) (length l.yielded) l.services;
-  most : l.services.most ≡ l.fn.services.most;
+  capacity : l.services.capacity ≡ l.fn.services.capacity;
   valid : IsTable service_key_cmp l.services;
 }

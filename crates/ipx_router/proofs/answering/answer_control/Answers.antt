@@ -24,10 +24,10 @@ returns-in-Sap-clause-there c =
 
 pub returns-in-Rip-clause-sound : goal.returns-in-Rip-clause-sound
 returns-in-Rip-clause-sound c =
-    sound_kept c.args.ports.now (c.args.routes.now, c.args.services.now) (c.answer_rip.new.routes, c.args.services.now) c.requires.sound c.answer_rip.ensures.valid c.requires.sound.tables.services c.answer_rip.ensures.most refl
+    sound_kept c.args.ports.now (c.args.routes.now, c.args.services.now) (c.answer_rip.new.routes, c.args.services.now) c.requires.sound c.answer_rip.ensures.valid c.requires.sound.tables.services c.answer_rip.ensures.capacity refl
     (c.answer_rip.ensures.sources (length c.args.ports.now) c.requires.port c.requires.sound.routes_from) c.requires.sound.services_from
 
 pub returns-in-Sap-clause-sound : goal.returns-in-Sap-clause-sound
 returns-in-Sap-clause-sound c =
-    sound_kept c.args.ports.now (c.args.routes.now, c.args.services.now) (c.args.routes.now, c.answer_sap.new.services) c.requires.sound c.requires.sound.tables.routes c.answer_sap.ensures.valid refl c.answer_sap.ensures.most
+    sound_kept c.args.ports.now (c.args.routes.now, c.args.services.now) (c.args.routes.now, c.answer_sap.new.services) c.requires.sound c.requires.sound.tables.routes c.answer_sap.ensures.valid refl c.answer_sap.ensures.capacity
     c.requires.sound.routes_from (c.answer_sap.ensures.sources (length c.args.ports.now) c.requires.port c.requires.sound.services_from)

@@ -17,7 +17,7 @@ loop-entry-init c = record {
   count = refl;
   few = omega arith;
   heard = heard_none network_cmp (after_routes c.args.ports.now c.args.source c.args.now (routes_in c.args.routes.now)) c.args.entries c.args.routes.now c.requires.table (λ p. refl);
-  most = refl;
+  capacity = refl;
   valid = c.requires.table;
   sources = λ count port from. from;
 }
@@ -52,13 +52,13 @@ loop-entry-preserved-then-is_route_heard c =
     let counted = ap (λ (n : ℕ). count_by (is_heard ports) (take n entries)) one_more in
     let passes = sym c.is_route_heard.ensures ∙ c.if-is_route_heard.true in
     let more = count_by_more_yes (is_heard ports) entries i no_entry at.0 (subst (λ (x : RipEntry). is_heard ports x ≡ true) (sym at.1) passes) in
-    let heard = heard_more ports c.args.source c.args.now entries (routes_in c.args.routes.now) i no_entry e at.0 at.1 c.loop-entry.routes old.heard c.hear.new.self c.hear.ensures.valid c.hear.ensures.most passes c.in_ok-hear.ensures.heard in
+    let heard = heard_more ports c.args.source c.args.now entries (routes_in c.args.routes.now) i no_entry e at.0 at.1 c.loop-entry.routes old.heard c.hear.new.self c.hear.ensures.valid c.hear.ensures.capacity passes c.in_ok-hear.ensures.heard in
     record {
       all = append_assoc ys (e ∷ []) c.next.new.self ∙ all;
       count = omega (arith, old.count, more, counted);
       few = omega (arith, old.few, one_more);
       heard = subst (λ (n : ℕ). HeardRoutes ports c.args.source c.args.now entries (routes_in c.args.routes.now) n c.hear.new.self) (sym one_more) heard;
-      most = c.hear.ensures.most ∙ old.most;
+      capacity = c.hear.ensures.capacity ∙ old.capacity;
       valid = c.hear.ensures.valid;
       sources = λ count port from. sources_more network_cmp route_dead count c.args.source (routes_in c.loop-entry.routes) (routes_in c.hear.new.self) _ _ c.args.now port (old.sources count port from) c.in_ok-hear.ensures.heard;
     }
@@ -83,7 +83,7 @@ loop-entry-preserved c =
       count = old.count ∙ sym more ∙ sym counted;
       few = omega (arith, old.few, one_more);
       heard = subst (λ (n : ℕ). HeardRoutes ports c.args.source c.args.now entries (routes_in c.args.routes.now) n c.loop-entry.routes) (sym one_more) heard;
-      most = old.most;
+      capacity = old.capacity;
       valid = old.valid;
       sources = old.sources;
     }

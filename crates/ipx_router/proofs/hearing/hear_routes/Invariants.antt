@@ -13,7 +13,7 @@ invariant-loop-entry l = record {
   count : l.heard ≡ count_by (is_heard l.ports) (take (length l.yielded) l.fn.entries);
   few : l.heard ≤ length l.yielded;
   heard : HeardRoutes l.ports l.source l.now l.fn.entries (routes_in l.fn.routes) (length l.yielded) l.routes;
-  most : l.routes.most ≡ l.fn.routes.most;
+  capacity : l.routes.capacity ≡ l.fn.routes.capacity;
   valid : IsTable network_cmp l.routes;
   sources : (count : ℕ) → IsPortNumber count l.source.port → AreFromPorts count (routes_in l.fn.routes) → AreFromPorts count (routes_in l.routes);
 }

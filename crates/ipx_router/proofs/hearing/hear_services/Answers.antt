@@ -13,7 +13,7 @@ loop-entry-init c = record {
   all = c.into_iter-entry-iterator.ensures.into_iter_gives;
   count = refl;
   heard = heard_none service_key_cmp (after_services c.args.source c.args.now (services_in c.args.services.now)) c.args.entries c.args.services.now c.requires.table (λ p. refl);
-  most = refl;
+  capacity = refl;
   valid = c.requires.table;
   sources = λ count port from. from;
 }
@@ -42,12 +42,12 @@ loop-entry-preserved c =
     let all : ys ++ (e ∷ c.next.new.self) ≡ entries = grind (arith, common_steps) in
     let at = walked_to ys e c.next.new.self entries no_service all in
     let one_more : length (ys ++ e ∷ []) ≡ length ys + 1 = length-append ys (e ∷ []) in
-    let heard = service_more c.args.source c.args.now entries (services_in c.args.services.now) (length ys) no_service e at.0 at.1 c.loop-entry.services old.heard c.hear.new.self c.hear.ensures.valid c.hear.ensures.most c.in_ok-hear.ensures.heard in
+    let heard = service_more c.args.source c.args.now entries (services_in c.args.services.now) (length ys) no_service e at.0 at.1 c.loop-entry.services old.heard c.hear.new.self c.hear.ensures.valid c.hear.ensures.capacity c.in_ok-hear.ensures.heard in
     record {
       all = append_assoc ys (e ∷ []) c.next.new.self ∙ all;
       count = ap (λ (n : ℕ). n + 1) old.count ∙ sym one_more;
       heard = subst (λ (n : ℕ). HeardServices c.args.source c.args.now entries (services_in c.args.services.now) n c.hear.new.self) (sym one_more) heard;
-      most = c.hear.ensures.most ∙ old.most;
+      capacity = c.hear.ensures.capacity ∙ old.capacity;
       valid = c.hear.ensures.valid;
       sources = λ count port from. sources_more service_key_cmp service_dead count c.args.source (services_in c.loop-entry.services) (services_in c.hear.new.self) _ _ c.args.now port (old.sources count port from) c.in_ok-hear.ensures.heard;
     }

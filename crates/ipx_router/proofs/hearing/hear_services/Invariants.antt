@@ -11,7 +11,7 @@ invariant-loop-entry l = record {
   all : l.yielded ++ l.entry-iterator ≡ l.fn.entries;
   count : l.heard ≡ length l.yielded;
   heard : HeardServices l.source l.now l.fn.entries (services_in l.fn.services) (length l.yielded) l.services;
-  most : l.services.most ≡ l.fn.services.most;
+  capacity : l.services.capacity ≡ l.fn.services.capacity;
   valid : IsTable service_key_cmp l.services;
   sources : (count : ℕ) → IsPortNumber count l.source.port → AreFromPorts count (services_in l.fn.services) → AreFromPorts count (services_in l.services);
 }

@@ -10,7 +10,7 @@ use Rattle.ipx_router.proofs.in_place.receive_in_place_at.Goals as goal
 
 pub answer_in_place-requires-clause-sound : goal.answer_in_place-requires-clause-sound
 answer_in_place-requires-clause-sound c =
-    sound_aged c.args.ports.now c.args.at.now (c.args.routes.now, c.args.services.now) (c.age.new.self, c.age-2.new.self) c.requires.sound c.age.ensures.valid c.age-2.ensures.valid c.age.ensures.most c.age-2.ensures.most c.age.ensures.aged c.age-2.ensures.aged
+    sound_aged c.args.ports.now c.args.at.now (c.args.routes.now, c.args.services.now) (c.age.new.self, c.age-2.new.self) c.requires.sound c.age.ensures.valid c.age-2.ensures.valid c.age.ensures.capacity c.age-2.ensures.capacity c.age.ensures.aged c.age-2.ensures.aged
 
 pub returns-clause-answer : goal.returns-clause-answer
 returns-clause-answer c =

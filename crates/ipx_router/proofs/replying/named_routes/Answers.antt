@@ -4,7 +4,7 @@ use Rattle.std.proofs.lemmas.Grind.{common_steps}
 use Rattle.std.proofs.lemmas.List.{append-nil}
 use Rattle.ipx_control.specs.declared.rip.packet.RipEntry.{RipEntry}
 use Rattle.ipx_router.specs.Knowledge.{routes_in}
-use Rattle.ipx_router.specs.Told.{IsAdvertisedRoute}
+use Rattle.ipx_router.specs.AdvertisedEntries.{IsAdvertisedRoute}
 use Rattle.ipx_router.specs.Replying.{AreAdvertisedOf}
 use Rattle.ipx_router.specs.Picking.{IsAdvertisedOf}
 use Rattle.ipx_router.proofs.Picked.{asked_more, asks_all_by, named_more}

@@ -1,6 +1,6 @@
 use Rattle.std.proofs.Common.{◌≡◌, ◌++◌, false}
 use Rattle.ipx_router.specs.Knowledge.{routes_in}
-use Rattle.ipx_router.specs.Told.{IsAdvertisedRoute}
+use Rattle.ipx_router.specs.AdvertisedEntries.{IsAdvertisedRoute}
 use Rattle.ipx_router.specs.Replying.{AreAdvertisedOf, asks_all}
 use Rattle.ipx_router.proofs.replying.named_routes.Given as goal
 

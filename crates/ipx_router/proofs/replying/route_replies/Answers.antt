@@ -14,7 +14,7 @@ use Rattle.ipx_router.specs.Knowledge.{routes_in}
 use Rattle.ipx_router.specs.RouterPackets.{AreRoutePackets, sendings}
 use Rattle.ipx_router.specs.Adding.{ArePacked}
 use Rattle.ipx_router.specs.Placing.{AreAdvertisedPorts, is_below}
-use Rattle.ipx_router.specs.Told.{advertised_route}
+use Rattle.ipx_router.specs.AdvertisedEntries.{advertised_route}
 use Rattle.ipx_router.proofs.AllRoutes.{AreLeft, all_are_told, some_are_told, longer, told_items, walk_pass, walk_told}
 use Rattle.ipx_router.proofs.Merging.{merged}
 use Rattle.ipx_router.proofs.SomeAdvertised.{any_err, some_by_item}

@@ -13,7 +13,7 @@ use Rattle.ipx_router.specs.declared.packets.Recipient.{Recipient}
 use Rattle.ipx_router.specs.Knowledge.{services_in}
 use Rattle.ipx_router.specs.RouterPackets.{AreServicePackets, sendings}
 use Rattle.ipx_router.specs.Adding.{ArePacked}
-use Rattle.ipx_router.specs.Told.{advertised_service}
+use Rattle.ipx_router.specs.AdvertisedEntries.{advertised_service}
 use Rattle.ipx_router.proofs.AllServices.{AreLeft, all_asked, asked_items, some_asked, walk_asked, walk_pass}
 use Rattle.ipx_router.proofs.SomeAdvertised.{any_err}
 use Rattle.ipx_router.proofs.AdvertisedServices.{item_replied}

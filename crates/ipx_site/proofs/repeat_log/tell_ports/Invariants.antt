@@ -1,10 +1,10 @@
 use Rattle.std.proofs.Common.{◌≡◌, ◌<◌, ◌≤◌, ℕ, get_or}
 use Rattle.ipx_site.specs.RepeatLog.{repeats_of_ports}
-use Rattle.ipx_sockets.specs.Moments.{IsLoggedIfDue, untold}
+use Rattle.ipx_sockets.specs.Moments.{IsLoggedIfDue, never_logged}
 use Rattle.ipx_site.proofs.repeat_log.tell_ports.Given as goal
 
 -- the ports before this index are logged if they are due, and the others are unchanged
 abbrev pub invariant-loop-place : goal.invariant-loop-place
 invariant-loop-place g l =
-    ((k : ℕ) → k < l.place → IsLoggedIfDue (get_or (repeats_of_ports l.servers l.port_indices) k 0) l.now (get_or l.fn.causes k untold) (get_or l.causes k untold))
-    × ((k : ℕ) → l.place ≤ k → get_or l.causes k untold ≡ get_or l.fn.causes k untold)
+    ((k : ℕ) → k < l.place → IsLoggedIfDue (get_or (repeats_of_ports l.servers l.port_indices) k 0) l.now (get_or l.fn.causes k never_logged) (get_or l.causes k never_logged))
+    × ((k : ℕ) → l.place ≤ k → get_or l.causes k never_logged ≡ get_or l.fn.causes k never_logged)

@@ -8,5 +8,5 @@ pub core_of-requires-clause-there : goal.core_of-requires-clause-there
 core_of-requires-clause-there c =
     let count = length c.args.site.now.ports.items in
     let entries = subst (All (λ (e : StaticEntry). IsPortNumber count e.by.port)) (sym c.deref.ensures.value) c.requires.there in
-    let there = subst (All (λ (n : StaticNeighbour). IsPortNumber count n.port)) (sym c.deref-4.ensures.value) (c.in_ok-silent.ensures.there count entries) in
+    let there = subst (All (λ (n : StaticNeighbour). IsPortNumber count n.port)) (sym c.deref-4.ensures.value) (c.in_ok-neighbours.ensures.there count entries) in
     subst (λ (some : ℕ). All (λ (n : StaticNeighbour). IsPortNumber some n.port) c.deref-4.result.now) (sym (ap length c.deref-3.ensures.value)) there

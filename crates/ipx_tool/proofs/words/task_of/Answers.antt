@@ -26,10 +26,10 @@ returns-in-len4 c =
 
 pub returns-in-len5 : goal.returns-in-len5
 returns-in-len5 c =
-    found_for c.two_words_task.result
+    found_for c.three_words_task.result
     ((λ i. c.as_str-in-len5.ensures.value i ∷ c.as_str-in-len5-2.ensures.value i ∷ c.as_str-in-len5-3.ensures.value i ∷ c.as_str-in-len5-4.ensures.value i ∷ [])
     ∙ after_five string_bytes c.args.words.now _ _ _ _ c.in-len5.len_at_least c.in-len5.len_below c.command-item-then-words-lt6.is c.first-item.is c.second-item.is c.third-item.is)
-    c.two_words_task.ensures
+    c.three_words_task.ensures
 
 pub returns-in-len6 : goal.returns-in-len6
 returns-in-len6 c =

@@ -9,5 +9,5 @@ invariant_of-result c = record {
   networks = c.requires;
   routes_from = λ p v h. (let none = rw c.route_table.ensures.empty at h in cc);
   services_from = λ p v h. (let none = rw c.service_table.ensures.empty at h in cc);
-  tables = tables_empty c.route_table.result c.service_table.result c.route_table.ensures.empty c.service_table.ensures.empty c.route_table.ensures.most c.service_table.ensures.most;
+  tables = tables_empty c.route_table.result c.service_table.result c.route_table.ensures.empty c.service_table.ensures.empty c.route_table.ensures.capacity c.service_table.ensures.capacity;
 }

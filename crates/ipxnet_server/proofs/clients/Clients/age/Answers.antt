@@ -8,7 +8,7 @@ use Rattle.ipxnet_server.proofs.clients.Clients.age.Goals as goal
 
 pub invariant_of-self : goal.invariant_of-self
 invariant_of-self c =
-    let most = c.self.inside.most in
+    let most = c.self.inside.max_clients in
     let room = vec_capacity c.self.inside.known in
     let left = once_left c.args.now most room c.self.inside.known.items c.self.invariant in
     let all : AreClients most c.leave_out_silent.new.known.items room = subst (λ (l : List Client). AreClients most l room) (sym c.leave_out_silent.ensures.items) left in
@@ -16,5 +16,5 @@ invariant_of-self c =
 
 pub returns-clause-once : goal.returns-clause-once
 returns-clause-once c =
-    let left = once_left c.args.now c.self.inside.most (vec_capacity c.self.inside.known) c.self.inside.known.items c.self.invariant in
+    let left = once_left c.args.now c.self.inside.max_clients (vec_capacity c.self.inside.known) c.self.inside.known.items c.self.invariant in
     subst EachClientOnce (sym c.leave_out_silent.ensures.items) left.once

@@ -23,7 +23,7 @@ heard c =
 
 pub invariant_of-self : goal.invariant_of-self
 invariant_of-self c =
-    let most = c.self.inside.most in
+    let most = c.self.inside.max_clients in
     let room = vec_capacity c.self.inside.known in
     let all = subst (λ (l : List Client). AreClients most l room) (sym (heard c)) (once_heard most room c.args.now c.args.place c.self.inside.known.items c.self.invariant) in
     let capacity : vec_capacity c.insert.new.self ≡ room = search rules in
@@ -31,6 +31,6 @@ invariant_of-self c =
 
 pub returns-clause-heard : goal.returns-clause-heard
 returns-clause-heard c =
-    let is_view : c.args.self.now ≡ record { most = c.self.inside.most; known = c.self.inside.known.items } = sym c.self.view_is in
-    subst (λ (v : ClientsView). record { most = c.self.inside.most; known = c.insert.new.self.items } ≡ record { most = v.most; known = clients_heard c.args.place c.args.now v.known }) c.self.view_is
-    (ap (λ (l : List Client). record { most = c.self.inside.most; known = l }) (heard c))
+    let is_view : c.args.self.now ≡ record { max_clients = c.self.inside.max_clients; known = c.self.inside.known.items } = sym c.self.view_is in
+    subst (λ (v : ClientsView). record { max_clients = c.self.inside.max_clients; known = c.insert.new.self.items } ≡ record { max_clients = v.max_clients; known = clients_heard c.args.place c.args.now v.known }) c.self.view_is
+    (ap (λ (l : List Client). record { max_clients = c.self.inside.max_clients; known = l }) (heard c))

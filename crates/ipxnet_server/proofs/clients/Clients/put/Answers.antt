@@ -10,7 +10,7 @@ pub invariant_of-self : goal.invariant_of-self
 invariant_of-self c =
     let place = c.args.place in
     let now = c.args.now in
-    let most = c.self.inside.most in
+    let most = c.self.inside.max_clients in
     let known : List Client = c.self.inside.known.items in
     let is_known : c.args.self.now.known ≡ known = sym (ap (λ (v : ClientsView). v.known) c.self.view_is) in
     let node = c.args.node in

@@ -102,8 +102,8 @@ returns-clause-stays c =
     let kept = hearing_rest heard c.args.from c.args.now c.meet.new.self in (
       ap (λ (v : ServerView). v.port) limits ∙ limiting_keeps (λ (v : ServerView). v.port) (λ l f k d n. refl) c.keep.new.self heard c.args.from c.args.now
           ∙ ap (λ (v : ServerView). v.port) c.keep.ensures ∙ ap (λ r. r.0) kept ∙ ap (λ (v : ServerView). v.port) (rest c),
-      ap (λ (v : ServerView). v.most) limits ∙ limiting_keeps (λ (v : ServerView). v.most) (λ l f k d n. refl) c.keep.new.self heard c.args.from c.args.now
-          ∙ ap (λ (v : ServerView). v.most) c.keep.ensures ∙ ap (λ r. r.1) kept ∙ ap (λ (v : ServerView). v.most) (rest c),
+      ap (λ (v : ServerView). v.max_clients) limits ∙ limiting_keeps (λ (v : ServerView). v.max_clients) (λ l f k d n. refl) c.keep.new.self heard c.args.from c.args.now
+          ∙ ap (λ (v : ServerView). v.max_clients) c.keep.ensures ∙ ap (λ r. r.1) kept ∙ ap (λ (v : ServerView). v.max_clients) (rest c),
       ap (λ (v : ServerView). v.routers) limits ∙ limiting_keeps (λ (v : ServerView). v.routers) (λ l f k d n. refl) c.keep.new.self heard c.args.from c.args.now
           ∙ ap (λ (v : ServerView). v.routers) c.keep.ensures ∙ ap (λ r. r.2) kept ∙ ap (λ (v : ServerView). v.routers) (rest c),
       ap (λ (v : ServerView). v.pinged) limits ∙ limiting_keeps (λ (v : ServerView). v.pinged) (λ l f k d n. refl) c.keep.new.self heard c.args.from c.args.now
