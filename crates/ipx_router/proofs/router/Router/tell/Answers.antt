@@ -14,4 +14,4 @@ returns-clause-refused c = rw (← c.self.view_is, ← c.deref.ensures.value) c.
 
 pub returns-clause-own : goal.returns-clause-own
 returns-clause-own c =
-    tells_own_ok (λ v. sendings v.items) (known_aged c.deref.result.now c.self.inside.routes c.self.inside.services c.args.now) c.self.inside.advertised_at c.args.now c.tell_at.new.advertised_at c.tell_at.result c.tell_at.ensures.tells
+    tells_own_ok (λ v. sendings v.items) (known_aged c.deref.result.now c.self.inside.routes c.self.inside.services c.args.now) c.self.inside.advertised_at c.args.now c.tell_at.new.told c.tell_at.result c.tell_at.ensures.tells
