@@ -14,7 +14,7 @@ use Rattle.ipx_query_cmd.specs.KnownLines.{known_networks_text, known_services_t
 
 -- the file of a router names a table file, and this is a complete text of one
 pub record NamesTables (site : RouterConfig) (place : String Global) (tables : List ℕ) : Type 0 where
-  pub named : site.tables ≡ Some place
+  pub named : site.tables_file ≡ Some place
   pub whole : has_all_titles tables ≡ true
 
 -- a text lists the networks of such a table file

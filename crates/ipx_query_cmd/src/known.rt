@@ -56,7 +56,7 @@ pub fn networks_by_router<R: Files + Clock + Eprint, W: Write>(
     ensures few { result ≤ 2 }
     ensures untouched { result ≡ 2 → writer.new ≡ writer.old }
 {
-    let Some(place) = &site.tables else {
+    let Some(place) = &site.tables_file else {
         return tell_no_tables(rt, path, "networks");
     };
     match load_tables(rt, alloc, place.as_str()) {
@@ -84,7 +84,7 @@ pub fn services_by_router<R: Files + Clock + Eprint, W: Write>(
     ensures few { result ≤ 2 }
     ensures untouched { result ≡ 2 → writer.new ≡ writer.old }
 {
-    let Some(place) = &site.tables else {
+    let Some(place) = &site.tables_file else {
         return tell_no_tables(rt, path, "services");
     };
     match load_tables(rt, alloc, place.as_str()) {

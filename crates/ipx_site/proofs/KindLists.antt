@@ -10,7 +10,8 @@ use Rattle.ipx_site.specs.declared.router_ports.PortIndex.TheVariants.{Datagrams
 use Rattle.ipx_config.specs.declared.site.EthernetPortConfig.{EthernetPortConfig}
 use Rattle.ipx_config.specs.declared.ipxnet_port.IpxnetPortConfig.{IpxnetPortConfig}
 use Rattle.ipx_config.specs.declared.site.PortConfig.{PortConfig}
-use Rattle.ipx_config.specs.declared.site.PortConfig.TheVariants.{Rfc1234, Frames, Ipxnet}
+use Rattle.ipx_config.specs.declared.site.PortConfig.TheVariants.{Rfc1234, Ipxnet}
+use Rattle.ipx_config.specs.declared.site.PortConfig.TheVariants as configs
 use Rattle.ipx_config.specs.declared.site.Rfc1234PortConfig.{Rfc1234PortConfig}
 use Rattle.ipx_site.specs.RouterPorts.{fits}
 use Rattle.ipx_config.specs.PortLists.{datagram_ports, datagrams_in, ipxnet_in, ipxnet_ports, ethernet_ports, ethernet_ports_in}
@@ -77,7 +78,7 @@ module _ (ports : List PortConfig) (i : ℕ) (port : PortConfig) (there : i < le
     omega (arith, still, seen.6),
   )
 
-  pub seen_ethernet : (p : EthernetPortConfig) → port ≡ Frames p → after ≡ before ++ Ethernet w ∷ [] → d' ≡ d → w' ≡ w + 1 → l' ≡ l → AreSeen ports (i + 1) after d' w' l'
+  pub seen_ethernet : (p : EthernetPortConfig) → port ≡ configs.Ethernet p → after ≡ before ++ Ethernet w ∷ [] → d' ≡ d → w' ≡ w + 1 → l' ≡ l → AreSeen ports (i + 1) after d' w' l'
   seen_ethernet p at now same more still = (
     one_more_port_index ports i port before after (Ethernet w) there is seen.0 now (ap Ethernet seen.2 ∙ sym (ap (port_index_after (take i ports)) at)),
     same_of datagrams_in d d' seen.1 (ap (λ (q : PortConfig). length (datagrams_in q)) at) same,
@@ -107,8 +108,8 @@ FitAmong ports port_index = fits (length (datagram_ports ports)) (length (ethern
 fits_there : (earlier : List PortConfig) (x : PortConfig) (xs : List PortConfig) → FitAmong (earlier ++ x ∷ xs) (port_index_after earlier x)
 fits_there earlier (Rfc1234 p) xs =
     omega (arith, ap length (flat_map-append datagrams_in earlier (Rfc1234 p ∷ xs)), length-append (datagram_ports earlier) (datagram_ports (Rfc1234 p ∷ xs)))
-fits_there earlier (Frames p) xs =
-    omega (arith, ap length (flat_map-append ethernet_ports_in earlier (Frames p ∷ xs)), length-append (ethernet_ports earlier) (ethernet_ports (Frames p ∷ xs)))
+fits_there earlier (configs.Ethernet p) xs =
+    omega (arith, ap length (flat_map-append ethernet_ports_in earlier (configs.Ethernet p ∷ xs)), length-append (ethernet_ports earlier) (ethernet_ports (configs.Ethernet p ∷ xs)))
 fits_there earlier (Ipxnet p) xs =
     omega (arith, ap length (flat_map-append ipxnet_in earlier (Ipxnet p ∷ xs)), length-append (ipxnet_ports earlier) (ipxnet_ports (Ipxnet p ∷ xs)))
 

@@ -6,7 +6,8 @@ use Rattle.ip_prefixes.specs.declared.prefix.Prefix.{Prefix as IpPrefix}
 use Rattle.ipx_config.specs.declared.ipxnet_port.IpxnetPortConfig.{IpxnetPortConfig}
 use Rattle.ipx_config.specs.declared.ipxnet_port.Peer.{Peer}
 use Rattle.ipx_config.specs.declared.site.PortConfig.{PortConfig}
-use Rattle.ipx_config.specs.declared.site.PortConfig.TheVariants.{Rfc1234, Frames, Ipxnet}
+use Rattle.ipx_config.specs.declared.site.PortConfig.TheVariants.{Rfc1234, Ipxnet}
+use Rattle.ipx_config.specs.declared.site.PortConfig.TheVariants as configs
 use Rattle.ipx_config.specs.PortLists.{ipxnet_in, ipxnet_ports}
 use Rattle.ipx_site.specs.Registering.{AddsAddresses, AreOfPeer, AreOfPeers, MayRegister, MayRegisterAt}
 
@@ -34,7 +35,7 @@ ports_more ports i d there =
 
 pub no_ipxnet : (p : PortConfig) → ((it : IpxnetPortConfig) → p ≡ Ipxnet it → ⊥) → ipxnet_in p ≡ []
 no_ipxnet (Rfc1234 p) not = refl
-no_ipxnet (Frames p) not = refl
+no_ipxnet (configs.Ethernet p) not = refl
 no_ipxnet (Ipxnet p) not = absurd (not p refl)
 
 -- one address more follows

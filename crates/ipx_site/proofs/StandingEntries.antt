@@ -31,7 +31,8 @@ use Rattle.ipx_config.specs.declared.statics.StaticItem.TheVariants as Says
 use Rattle.ipx_config.specs.declared.static_fields.NextHop.{NextHop}
 use Rattle.ipx_config.specs.declared.key.Key.TheVariants as Key
 use Rattle.ipx_config.specs.declared.site.PortConfig.{PortConfig}
-use Rattle.ipx_config.specs.declared.site.PortConfig.TheVariants.{Rfc1234, Frames, Ipxnet}
+use Rattle.ipx_config.specs.declared.site.PortConfig.TheVariants.{Rfc1234, Ipxnet}
+use Rattle.ipx_config.specs.declared.site.PortConfig.TheVariants as configs
 use Rattle.ipx_config.specs.Fields.{HoldsOr}
 use Rattle.ipx_config.specs.StaticFields.{IsNear, numbered_port, port_index_on}
 use Rattle.ipx_config.specs.StaticLists.{AreStatics, AreEntriesOf, AreStaticEntries, again_place, is_one_source, is_same_word, is_repeat_of, named_sources, route_of_item, service_of_item, with_source}
@@ -71,7 +72,7 @@ not_three a b c x y z = rw (x, y, z) refl
 
 network_kept : (p : PortConfig) → network_of_kind p ≡ (router_port_of_kind p).network
 network_kept (Rfc1234 p) = refl
-network_kept (Frames p) = refl
+network_kept (configs.Ethernet p) = refl
 network_kept (Ipxnet p) = refl
 
 none_own : (ports : List PortConfig) (n : Network) → port_index_on ports n ≡ None → list_any (λ (p : Port). p.network.0 == n.0) (router_ports ports) ≡ false

@@ -27,7 +27,8 @@ use Rattle.ipx_site.specs.declared.router_ports.PortIndex.TheVariants.{Datagrams
 use Rattle.ipx_config.specs.declared.site.EthernetPortConfig.{EthernetPortConfig}
 use Rattle.ipx_config.specs.declared.ipxnet_port.IpxnetPortConfig.{IpxnetPortConfig}
 use Rattle.ipx_config.specs.declared.site.PortConfig.{PortConfig}
-use Rattle.ipx_config.specs.declared.site.PortConfig.TheVariants.{Rfc1234, Frames, Ipxnet}
+use Rattle.ipx_config.specs.declared.site.PortConfig.TheVariants.{Rfc1234, Ipxnet}
+use Rattle.ipx_config.specs.declared.site.PortConfig.TheVariants as configs
 use Rattle.ipx_sockets.specs.AccessLists.{AccessListPorts}
 use Rattle.ipx_config.specs.SitePorts.{site_peers, udp_ports, router_port_of_kind}
 use Rattle.ipx_source_checks.specs.declared.failed_check.CheckedPort.{CheckedPort}
@@ -36,7 +37,7 @@ use Rattle.ipx_config.specs.PortLists.{datagram_ports, ethernet_ports, ipxnet_po
 -- the index of a port among those of its kind, starting at 0, after earlier ports
 abbrev pub port_index_after : List PortConfig → PortConfig → PortIndex
 port_index_after earlier (Rfc1234 p) = Datagrams (length (datagram_ports earlier))
-port_index_after earlier (Frames p) = Ethernet (length (ethernet_ports earlier))
+port_index_after earlier (configs.Ethernet p) = Ethernet (length (ethernet_ports earlier))
 port_index_after earlier (Ipxnet p) = IpxnetServer (length (ipxnet_ports earlier))
 
 abbrev pub port_indices_after : List PortConfig → List PortConfig → List PortIndex
@@ -87,7 +88,7 @@ pub record ArePortsBound {gd : OfDevice.Ghosts (SourceFilter UdpSockets)} {ge : 
 -- the ports for source checks: which of them are Ethernet ports
 abbrev pub is_ethernet : PortConfig → Bool
 is_ethernet (Rfc1234 p) = false
-is_ethernet (Frames p) = true
+is_ethernet (configs.Ethernet p) = true
 is_ethernet (Ipxnet p) = false
 
 abbrev pub checked_port_of_kind : PortConfig → CheckedPort
