@@ -110,7 +110,7 @@ polled_one : (laws : MemberLaws) (r one two : RouterNow) (now : ℕ) (sent sent'
 polled_one laws r one two now sent sent' p q =
     let k : Known = known_at r.router now in
     let asked : q.asked ≡ p.asked = asked_one r.started r.router.ports p.asked q.asked laws.start p.asks q.asks in
-    let told = laws.telling k k r.router.told now p.told q.told one.router.told two.router.told (record { ports = refl; routes = λ s. refl; services = λ s. refl }) p.tells q.tells in
+    let told = laws.telling k k r.router.advertised_at now p.told q.told one.router.advertised_at two.router.advertised_at (record { ports = refl; routes = λ s. refl; services = λ s. refl }) p.tells q.tells in
     let holds = laws.holding k (tables one.router) (tables two.router) p.known q.known in (
       q.are ∙ ap (λ xs. xs ++ q.told) asked ∙ ap (λ xs. p.asked ++ xs) (sym told.0) ∙ sym p.are,
       record {
