@@ -8,7 +8,7 @@ use Rattle.std.specs.declared.net.socket_addr.SocketAddrV4.{SocketAddrV4}
 use Rattle.ipx_wire.specs.Ipx.{PacketView}
 use Rattle.ipx_wire.specs.declared.address.Node.{Node}
 use Rattle.ipxnet_server.specs.declared.disposition.Disposition.{Disposition}
-use Rattle.ipxnet_server.specs.declared.disposition.Disposition.TheVariants.{Registered, Pinged, ToClient, ToOthers, ToOthersAndCore, ToCore, Heard, ToJoined, FromJoined, Dropped}
+use Rattle.ipxnet_server.specs.declared.disposition.Disposition.TheVariants.{Registered, Pinged, ToClient, ToOthers, ToOthersAndCore, ToCore, PingAnswered, ToJoined, FromJoined, Dropped}
 use Rattle.ipxnet_server.specs.declared.drops.ServerDrop.{ServerDrop}
 use Rattle.ipxnet_server.specs.declared.noted.Noted.{Noted}
 use Rattle.ipxnet_server.specs.declared.recipients.Recipients.{Recipients}
@@ -129,7 +129,7 @@ module _ (P : Noted → Type 0) where
   all_hearing (ToOthers giver) from now l new all = all
   all_hearing (ToOthersAndCore giver) from now l new all = all
   all_hearing ToCore from now l new all = all
-  all_hearing Heard from now l new all = all
+  all_hearing PingAnswered from now l new all = all
   all_hearing (ToJoined takers) from now l new all = all
   all_hearing (FromJoined told takers) from now l new all = all_told told from now l all
   all_hearing (Dropped d) from now l new all = all

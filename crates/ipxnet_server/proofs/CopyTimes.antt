@@ -10,7 +10,7 @@ use Rattle.token_bucket.specs.declared.bucket.TokenBucket.{TokenBucket}
 use Rattle.token_bucket.specs.TokenBucket.{bucket_clock, bucket_has, bucket_taken, most_in}
 use Rattle.token_bucket.proofs.Rates.{at_most, has, none_more, one_more}
 use Rattle.ipxnet_server.specs.declared.disposition.Disposition.{Disposition}
-use Rattle.ipxnet_server.specs.declared.disposition.Disposition.TheVariants.{Registered, Pinged, ToClient, ToOthers, ToOthersAndCore, ToCore, Heard, ToJoined, FromJoined, Dropped}
+use Rattle.ipxnet_server.specs.declared.disposition.Disposition.TheVariants.{Registered, Pinged, ToClient, ToOthers, ToOthersAndCore, ToCore, PingAnswered, ToJoined, FromJoined, Dropped}
 use Rattle.ipxnet_server.specs.declared.drops.ServerDrop.{ServerDrop}
 use Rattle.ipxnet_server.specs.declared.drops.ServerDrop.TheVariants.{Busy, RateLimited}
 use Rattle.ipxnet_server.specs.declared.recipients.Recipients.{Recipients}
@@ -40,7 +40,7 @@ hearing_bucket (ToClient place) from now l = refl
 hearing_bucket (ToOthers giver) from now l = refl
 hearing_bucket (ToOthersAndCore giver) from now l = refl
 hearing_bucket ToCore from now l = refl
-hearing_bucket Heard from now l = refl
+hearing_bucket PingAnswered from now l = refl
 hearing_bucket (ToJoined takers) from now l = refl
 hearing_bucket (FromJoined told takers) from now l = told_bucket told from now l
 hearing_bucket (Dropped drop) from now l = refl

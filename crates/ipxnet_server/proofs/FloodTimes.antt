@@ -10,7 +10,7 @@ use Rattle.ipx_wire.specs.declared.address.Node.{Node}
 use Rattle.token_bucket.specs.TokenBucket.{back_after, bucket_clock, has_tokens, most_in}
 use Rattle.token_bucket.proofs.Rates.{at_most, has, none_more, one_more}
 use Rattle.ipxnet_server.specs.declared.disposition.Disposition.{Disposition}
-use Rattle.ipxnet_server.specs.declared.disposition.Disposition.TheVariants.{Registered, Pinged, ToClient, ToOthers, ToOthersAndCore, ToCore, Heard, ToJoined, FromJoined, Dropped}
+use Rattle.ipxnet_server.specs.declared.disposition.Disposition.TheVariants.{Registered, Pinged, ToClient, ToOthers, ToOthersAndCore, ToCore, PingAnswered, ToJoined, FromJoined, Dropped}
 use Rattle.ipxnet_server.specs.declared.drops.ServerDrop.{ServerDrop}
 use Rattle.ipxnet_server.specs.declared.drops.ServerDrop.TheVariants.{Busy, RateLimited}
 use Rattle.ipxnet_server.specs.declared.flooders.Flooder.{Flooder}
@@ -104,7 +104,7 @@ hearing_tokens (ToClient place) from now l = refl
 hearing_tokens (ToOthers giver) from now l = refl
 hearing_tokens (ToOthersAndCore giver) from now l = refl
 hearing_tokens ToCore from now l = refl
-hearing_tokens Heard from now l = refl
+hearing_tokens PingAnswered from now l = refl
 hearing_tokens (ToJoined takers) from now l = refl
 hearing_tokens (FromJoined told takers) from now l = told_tokens told from now l
 hearing_tokens (Dropped drop) from now l = refl

@@ -9,7 +9,7 @@ use Rattle.ipxnet_server.specs.declared.clients.Client.{Client}
 use Rattle.ipxnet_server.specs.declared.drops.ServerDrop.{ServerDrop}
 use Rattle.ipxnet_server.specs.declared.drops.ServerDrop.TheVariants.{NodeTaken, FullOfAddress, Full, Unregistered, OtherSource, TooLong, NoSuchNode, ToItself, PingElsewhere, BroadcastElsewhere, FromElsewhere, Response, NotBehind, ForElsewhere}
 use Rattle.ipxnet_server.specs.declared.disposition.Disposition.{Disposition}
-use Rattle.ipxnet_server.specs.declared.disposition.Disposition.TheVariants.{Registered, Pinged, ToClient, ToOthers, ToOthersAndCore, ToCore, Heard, ToJoined, FromJoined, Dropped}
+use Rattle.ipxnet_server.specs.declared.disposition.Disposition.TheVariants.{Registered, Pinged, ToClient, ToOthers, ToOthersAndCore, ToCore, PingAnswered, ToJoined, FromJoined, Dropped}
 use Rattle.std.specs.declared.net.socket_addr.SocketAddrV4.{SocketAddrV4}
 use Rattle.ipxnet_server.specs.declared.port.ServerPort.{ServerPort}
 use Rattle.ipxnet_server.specs.declared.peer_servers.RemoteClient.{RemoteClient}
@@ -170,8 +170,8 @@ module _ (l : ServerView) (from : SocketAddrV4) (size : ℕ) (thirty : ipx_heade
       to_core : Sound ToCore
       to_core = sent ToCore refl (λ header e. cc) (λ place e. cc) refl
 
-      heard_only : Sound Heard
-      heard_only = sent Heard refl (λ header e. cc) (λ place e. cc) refl
+      heard_only : Sound PingAnswered
+      heard_only = sent PingAnswered refl (λ header e. cc) (λ place e. cc) refl
 
       to_others : Sound (ToOthers from)
       to_others = sent (ToOthers from) (ap not (same_place from)) (λ header e. cc) (λ place e. cc) refl

@@ -9,7 +9,7 @@ use Rattle.ipx_wire.specs.Ipx.{PacketView}
 use Rattle.ipx_wire.specs.declared.address.Node.{Node}
 use Rattle.ipxnet_server.specs.declared.clients.Client.{Client}
 use Rattle.ipxnet_server.specs.declared.disposition.Disposition.{Disposition}
-use Rattle.ipxnet_server.specs.declared.disposition.Disposition.TheVariants.{Registered, Pinged, ToClient, ToOthers, ToOthersAndCore, ToCore, Heard, ToJoined, FromJoined, Dropped}
+use Rattle.ipxnet_server.specs.declared.disposition.Disposition.TheVariants.{Registered, Pinged, ToClient, ToOthers, ToOthersAndCore, ToCore, PingAnswered, ToJoined, FromJoined, Dropped}
 use Rattle.ipxnet_server.specs.declared.drops.ServerDrop.{ServerDrop}
 use Rattle.ipxnet_server.specs.declared.noted.Noted.{Noted}
 use Rattle.ipxnet_server.specs.declared.port.ServerPort.{ServerPort}
@@ -112,7 +112,7 @@ due_hearing (ToClient one) from place now t l = omega arith
 due_hearing (ToOthers giver) from place now t l = omega arith
 due_hearing (ToOthersAndCore giver) from place now t l = omega arith
 due_hearing ToCore from place now t l = omega arith
-due_hearing Heard from place now t l = omega arith
+due_hearing PingAnswered from place now t l = omega arith
 due_hearing (ToJoined takers) from place now t l = omega arith
 due_hearing (FromJoined told takers) from place now t l = due_told told from place now t l
 due_hearing (Dropped d) from place now t l = omega arith

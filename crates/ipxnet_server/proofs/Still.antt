@@ -10,7 +10,7 @@ use Rattle.std.proofs.lemmas.Bool.{eqb-true}
 use Rattle.std.proofs.lemmas.Slice.Eq.{bytes_eq-Decides}
 use Rattle.ipxnet_server.specs.declared.clients.Client.{Client}
 use Rattle.ipxnet_server.specs.declared.disposition.Disposition.{Disposition}
-use Rattle.ipxnet_server.specs.declared.disposition.Disposition.TheVariants.{Registered, Pinged, ToClient, ToOthers, ToOthersAndCore, ToCore, Heard, ToJoined, FromJoined, Dropped}
+use Rattle.ipxnet_server.specs.declared.disposition.Disposition.TheVariants.{Registered, Pinged, ToClient, ToOthers, ToOthersAndCore, ToCore, PingAnswered, ToJoined, FromJoined, Dropped}
 use Rattle.ipxnet_server.specs.declared.drops.ServerDrop.{ServerDrop}
 use Rattle.ipxnet_server.specs.declared.drops.ServerDrop.TheVariants.{NoSuchNode, TooLong}
 use Rattle.std.specs.declared.net.socket_addr.SocketAddrV4.{SocketAddrV4}
@@ -168,7 +168,7 @@ hearing_clients (ToClient place) from now l e = refl
 hearing_clients (ToOthers giver) from now l e = refl
 hearing_clients (ToOthersAndCore giver) from now l e = refl
 hearing_clients ToCore from now l e = refl
-hearing_clients Heard from now l e = refl
+hearing_clients PingAnswered from now l e = refl
 hearing_clients (ToJoined takers) from now l e = refl
 hearing_clients (FromJoined told takers) from now l e = cc
 hearing_clients (Dropped d) from now l e = cc
@@ -188,7 +188,7 @@ others_clients (ToClient place) from now l e = cc
 others_clients (ToOthers giver) from now l e = cc
 others_clients (ToOthersAndCore giver) from now l e = cc
 others_clients ToCore from now l e = cc
-others_clients Heard from now l e = cc
+others_clients PingAnswered from now l e = cc
 others_clients (ToJoined takers) from now l e = cc
 others_clients (FromJoined told takers) from now l e = told_clients told from now l
 others_clients (Dropped d) from now l e = refl
@@ -216,7 +216,7 @@ hearing_far (ToClient place) from now l e = refl
 hearing_far (ToOthers giver) from now l e = refl
 hearing_far (ToOthersAndCore giver) from now l e = refl
 hearing_far ToCore from now l e = refl
-hearing_far Heard from now l e = refl
+hearing_far PingAnswered from now l e = refl
 hearing_far (ToJoined takers) from now l e = refl
 hearing_far (FromJoined told takers) from now l e = cc
 hearing_far (Dropped d) from now l e = refl
@@ -263,7 +263,7 @@ hearing_rest (ToClient place) from now l = refl
 hearing_rest (ToOthers giver) from now l = refl
 hearing_rest (ToOthersAndCore giver) from now l = refl
 hearing_rest ToCore from now l = refl
-hearing_rest Heard from now l = refl
+hearing_rest PingAnswered from now l = refl
 hearing_rest (ToJoined takers) from now l = refl
 hearing_rest (FromJoined told takers) from now l = told_rest told from now l
 hearing_rest (Dropped d) from now l = refl

@@ -14,7 +14,7 @@ use Rattle.ipxnet_server.specs.declared.counts.ServerCounts.{ServerCounts}
 use Rattle.ipxnet_server.specs.declared.drops.ServerDrop.{ServerDrop}
 use Rattle.ipxnet_server.specs.declared.drops.ServerDrop.TheVariants.{NodeTaken, FullOfAddress, Full, Unregistered, OtherSource, TooLong, NoSuchNode, ToItself, PingElsewhere, BroadcastElsewhere, FromElsewhere, Response, NotBehind, ForElsewhere}
 use Rattle.ipxnet_server.specs.declared.disposition.Disposition.{Disposition}
-use Rattle.ipxnet_server.specs.declared.disposition.Disposition.TheVariants.{Registered, Pinged, ToClient, ToOthers, ToOthersAndCore, ToCore, Heard, ToJoined, FromJoined, Dropped}
+use Rattle.ipxnet_server.specs.declared.disposition.Disposition.TheVariants.{Registered, Pinged, ToClient, ToOthers, ToOthersAndCore, ToCore, PingAnswered, ToJoined, FromJoined, Dropped}
 use Rattle.ipxnet_server.specs.declared.recipients.Recipients.{Recipients}
 use Rattle.ipxnet_server.specs.declared.recipients.Recipients.TheVariants.{Nobody, One, Others, All, Here, Joined, JoinedAt}
 use Rattle.ipxnet_server.specs.declared.peer_servers.RemoteClient.{RemoteClient}
@@ -164,7 +164,7 @@ core_hears port p =
 
 -- to the router's node. What answers its pings is for nobody
 abbrev pub router_hears : ServerPort → PacketView → Disposition
-router_hears port p = if p.header.to.socket.0 == server_socket then Heard else core_hears port p
+router_hears port p = if p.header.to.socket.0 == server_socket then PingAnswered else core_hears port p
 
 -- to the joined router where a node is known, otherwise to each
 abbrev pub joined_takers : Option RemoteClient → Recipients
@@ -269,7 +269,7 @@ takers_of (ToClient place) = One place
 takers_of (ToOthers from) = Others from
 takers_of (ToOthersAndCore from) = Others from
 takers_of ToCore = Nobody
-takers_of Heard = Nobody
+takers_of PingAnswered = Nobody
 takers_of (ToJoined takers) = takers
 takers_of (FromJoined told takers) = takers
 takers_of (Dropped drop) = Nobody
@@ -309,7 +309,7 @@ goes_to_core (ToClient place) = false
 goes_to_core (ToOthers from) = false
 goes_to_core (ToOthersAndCore from) = true
 goes_to_core ToCore = true
-goes_to_core Heard = false
+goes_to_core PingAnswered = false
 goes_to_core (ToJoined takers) = false
 goes_to_core (FromJoined told takers) = false
 goes_to_core (Dropped drop) = false
@@ -322,7 +322,7 @@ answer_of (ToClient place) = None
 answer_of (ToOthers from) = None
 answer_of (ToOthersAndCore from) = None
 answer_of ToCore = None
-answer_of Heard = None
+answer_of PingAnswered = None
 answer_of (ToJoined takers) = None
 answer_of (FromJoined told takers) = None
 answer_of (Dropped drop) = None
@@ -335,7 +335,7 @@ is_of_client (ToClient place) = true
 is_of_client (ToOthers from) = true
 is_of_client (ToOthersAndCore from) = true
 is_of_client ToCore = true
-is_of_client Heard = true
+is_of_client PingAnswered = true
 is_of_client (ToJoined takers) = true
 is_of_client (FromJoined told takers) = false
 is_of_client (Dropped drop) = false
@@ -348,7 +348,7 @@ is_of_joined (ToClient place) = false
 is_of_joined (ToOthers from) = false
 is_of_joined (ToOthersAndCore from) = false
 is_of_joined ToCore = false
-is_of_joined Heard = false
+is_of_joined PingAnswered = false
 is_of_joined (ToJoined takers) = false
 is_of_joined (FromJoined told takers) = true
 is_of_joined (Dropped drop) = false
@@ -447,7 +447,7 @@ server_hearing (ToClient place) from now l = server_knowing from now l
 server_hearing (ToOthers giver) from now l = server_knowing from now l
 server_hearing (ToOthersAndCore giver) from now l = server_knowing from now l
 server_hearing ToCore from now l = server_knowing from now l
-server_hearing Heard from now l = server_knowing from now l
+server_hearing PingAnswered from now l = server_knowing from now l
 server_hearing (ToJoined takers) from now l = server_knowing from now l
 server_hearing (FromJoined told takers) from now l = server_learned told from now l
 server_hearing (Dropped drop) from now l = server_dropping drop l

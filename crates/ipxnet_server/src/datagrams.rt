@@ -197,7 +197,7 @@ pub fn to_router(port: ServerPort, packet: &Packet<'_>) -> Disposition
     ensures { result ≡ router_hears port (packet_view packet.now) }
 {
     if packet.header.to.socket == SERVER_SOCKET {
-        return Disposition::Heard;
+        return Disposition::PingAnswered;
     }
     to_core(port, packet)
 }

@@ -27,7 +27,7 @@ pub enum Disposition {
     /// Only the core of the port gets it.
     ToCore,
     /// It answers a ping of the router. Its sender was heard, and nobody gets it.
-    Heard,
+    PingAnswered,
     /// A client sent it to a node that no client has. It is sent to these joined routers.
     ToJoined(Recipients),
     /// It came from a joined router, and is sent to these clients. If it shows that a node is at
@@ -60,7 +60,7 @@ impl Disposition {
             Disposition::ToJoined(takers) | Disposition::FromJoined(_, takers) => takers,
             Disposition::Registered(_)
             | Disposition::ToCore
-            | Disposition::Heard
+            | Disposition::PingAnswered
             | Disposition::Dropped(_) => Recipients::Nobody,
         }
     }
@@ -85,7 +85,7 @@ impl Disposition {
             | Disposition::ToOthers(_)
             | Disposition::ToOthersAndCore(_)
             | Disposition::ToCore
-            | Disposition::Heard
+            | Disposition::PingAnswered
             | Disposition::ToJoined(_)
             | Disposition::FromJoined(_, _)
             | Disposition::Dropped(_) => None,
@@ -102,7 +102,7 @@ impl Disposition {
             | Disposition::ToOthers(_)
             | Disposition::ToOthersAndCore(_)
             | Disposition::ToCore
-            | Disposition::Heard
+            | Disposition::PingAnswered
             | Disposition::ToJoined(_) => true,
             Disposition::Registered(_) | Disposition::FromJoined(_, _) | Disposition::Dropped(_) =>
                 false,

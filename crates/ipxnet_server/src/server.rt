@@ -80,14 +80,14 @@ impl Model for IpxnetServer {
 }
 
 impl IpxnetServer {
-    /// Whether a server may be limited to `most` clients: 1 to `MAX_CLIENTS`.
+    /// Whether a server may be limited to `max_clients` clients: 1 to `MAX_CLIENTS`.
     pub fn may_have(max_clients: usize) -> bool
         ensures { result ≡ (nat_le 1 max_clients && nat_le max_clients max_server_clients) }
     {
         1 <= max_clients && max_clients <= MAX_CLIENTS
     }
 
-    /// A server of a port, with at most `most` clients, which must be 1 to 150. It is joined to no
+    /// A server of a port, with at most `max_clients` clients, which must be 1 to 150. It is joined to no
     /// router, and knows no client. Only this and `IpxnetServer::joined_to` allocate memory.
     pub fn new(
         alloc: Global,
@@ -211,7 +211,7 @@ impl IpxnetServer {
     }
 
     /// What becomes of a datagram.
-    fn judge(&self, from: SocketAddrV4, bytes: &[u8], now: u64) -> Disposition
+    fn decide(&self, from: SocketAddrV4, bytes: &[u8], now: u64) -> Disposition
         ensures malformed { (f : IpxFault) → ipx_fault bytes.now ≡ Some f
             → result ≡ Dropped (Malformed f) }
         ensures packet { (p : PacketView) → BeginsWith bytes.now p
@@ -237,7 +237,7 @@ impl IpxnetServer {
     }
 
     /// The client at an address was heard.
-    fn know(&mut self, from: SocketAddrV4, now: u64)
+    fn note_heard(&mut self, from: SocketAddrV4, now: u64)
         ensures { self.new ≡ server_knowing from now self.old }
     {
         self.clients.hear(from, now);
@@ -257,7 +257,7 @@ impl IpxnetServer {
     }
 
     /// Makes the sender of a datagram a client, if its packet does that.
-    fn meet(&mut self, from: SocketAddrV4, bytes: &[u8], now: u64)
+    fn recognise(&mut self, from: SocketAddrV4, bytes: &[u8], now: u64)
         requires few { length self.old.clients ≤ self.old.max_clients }
         ensures packet { (p : PacketView) → BeginsWith bytes.now p
             → self.new ≡ server_met from p.header (length bytes.now) now self.old }
@@ -300,7 +300,7 @@ impl IpxnetServer {
             | Disposition::ToOthersAndCore(_)
             | Disposition::ToJoined(_)
             | Disposition::ToCore
-            | Disposition::Heard => self.know(from, now),
+            | Disposition::PingAnswered => self.note_heard(from, now),
         }
     }
 
@@ -377,8 +377,8 @@ impl IpxnetServer {
             → self.new.far ≡ (server_aged now self.old).far }
     {
         self.age(now);
-        self.meet(from, bytes, now);
-        let heard = self.judge(from, bytes, now);
+        self.recognise(from, bytes, now);
+        let heard = self.decide(from, bytes, now);
         self.keep(heard, from, now);
         self.limit(heard, from, now)
     }

@@ -75,7 +75,7 @@ fn who_answers(rt: HostRuntime) -> Result<(), Fail> {
     assert_eq!(rt; asked_at(&mut server, 1000), [true, false]);
     assert_eq!(rt;
         server.hear(first_place(), &packet(PORT.own, 2, FIRST_NODE), 1001),
-        Disposition::Heard
+        Disposition::PingAnswered
     );
     assert_eq!(rt; server.clients()[0].place, first_place());
     assert!(rt; server.noted().is_empty());

@@ -51,7 +51,7 @@ fn a_host_removes_no_other_note(rt: HostRuntime) -> Result<(), Fail> {
     assert!(rt; !server.noted()[1..].iter().any(|noted| turn.asks(noted)));
     assert_eq!(rt;
         server.hear(first_place(), &packet(PORT.own, 2, FIRST_NODE), 6501),
-        Disposition::Heard
+        Disposition::PingAnswered
     );
     assert_eq!(rt; server.clients().len(), 1);
     assert_eq!(rt; server.clients()[0].node, FIRST_NODE);
@@ -125,7 +125,7 @@ fn nobody_puts_off_a_ping(rt: HostRuntime) -> Result<(), Fail> {
     let answers = packet(PORT.own, 2, FIRST_NODE);
     assert_eq!(rt;
         server.hear(first_place(), &answers, 6501),
-        Disposition::Heard
+        Disposition::PingAnswered
     );
     assert_eq!(rt; server.clients()[0].place, first_place());
     assert!(rt; server.noted().is_empty());

@@ -57,7 +57,7 @@ fn who_is_pinged(rt: HostRuntime) -> Result<(), Fail> {
     // The first answers, and the second does not.
     assert_eq!(rt;
         server.hear(first_place(), &OF_FIRST, 30_001),
-        Disposition::Heard
+        Disposition::PingAnswered
     );
     assert_eq!(rt; server.next_pings(), Some(52_000));
     assert_eq!(rt; pinged(&mut server, 51_999), [false; 3]);
@@ -75,7 +75,7 @@ fn its_bytes_and_its_answer(rt: HostRuntime) -> Result<(), Fail> {
     register_all(&mut server);
     assert_eq!(rt; server.ping(), PING);
     let heard = server.hear(first_place(), &OF_FIRST, 9);
-    assert_eq!(rt; heard, Disposition::Heard);
+    assert_eq!(rt; heard, Disposition::PingAnswered);
     assert!(rt; heard.answer().is_none());
     assert!(rt; !heard.is_for_core());
     for place in [first_place(), second_place(), third_place()] {
@@ -163,7 +163,7 @@ fn who_registered(rt: HostRuntime) -> Result<(), Fail> {
     assert_eq!(rt; server.next_pings(), Some(7500));
     assert_eq!(rt;
         server.hear(first_place(), &OF_FIRST, 6501),
-        Disposition::Heard
+        Disposition::PingAnswered
     );
     assert_eq!(rt; server.clients()[0].node, FIRST_NODE);
     assert_eq!(rt; asked(&mut server, 7500), [false, true, false]);

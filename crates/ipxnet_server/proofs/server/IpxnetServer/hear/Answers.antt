@@ -17,89 +17,89 @@ use Rattle.ipxnet_server.proofs.server.IpxnetServer.hear.Goals as goal
 
 pub keep-requires : goal.keep-requires
 keep-requires c = record {
-  joined = λ told takers e. told_joined (is_joined_place c.args.from c.meet.new.self.routers) c.judge-heard.result told takers c.judge-heard.ensures.sound.member e;
+  joined = λ told takers e. told_joined (is_joined_place c.args.from c.recognise.new.self.routers) c.decide-heard.result told takers c.decide-heard.ensures.sound.member e;
 }
 
 -- only its clients, and who is noted, changed before the packet was judged
-rest : (c : goal.After-limit) → record c.meet.new.self { clients = c.age.new.self.clients; noted = c.age.new.self.noted } ≡ server_aged c.args.now c.args.self.now
-rest c = met_rest c.args.from c.args.now c.age.new.self c.meet.new.self c.meet.ensures.known ∙ c.age.ensures.aged
+rest : (c : goal.After-limit) → record c.recognise.new.self { clients = c.age.new.self.clients; noted = c.age.new.self.noted } ≡ server_aged c.args.now c.args.self.now
+rest c = met_rest c.args.from c.args.now c.age.new.self c.recognise.new.self c.recognise.ensures.known ∙ c.age.ensures.aged
 
 -- the server has the routers that it had
-routers : (c : goal.After-limit) → is_joined_place c.args.from c.meet.new.self.routers ≡ is_joined_place c.args.from c.args.self.now.routers
+routers : (c : goal.After-limit) → is_joined_place c.args.from c.recognise.new.self.routers ≡ is_joined_place c.args.from c.args.self.now.routers
 routers c = ap (λ (v : ServerView). is_joined_place c.args.from v.routers) (rest c)
 
 -- a packet finds the server with its sender, if it makes it a client
 met : (c : goal.After-limit) (p : PacketView) → BeginsWith c.args.bytes.now p
-    → c.meet.new.self ≡ server_met c.args.from p.header (length c.args.bytes.now) c.args.now (server_aged c.args.now c.args.self.now)
+    → c.recognise.new.self ≡ server_met c.args.from p.header (length c.args.bytes.now) c.args.now (server_aged c.args.now c.args.self.now)
 met c p begins =
-    c.meet.ensures.packet p begins ∙ ap (server_met c.args.from p.header (length c.args.bytes.now) c.args.now) c.age.ensures.aged
+    c.recognise.ensures.packet p begins ∙ ap (server_met c.args.from p.header (length c.args.bytes.now) c.args.now) c.age.ensures.aged
 
 -- without limits, what becomes of a packet, and what the server is then
 judged : (c : goal.After-limit) (p : PacketView) → BeginsWith c.args.bytes.now p
-    → c.judge-heard.result ≡ unlimited_hears c.args.self.now c.args.from p (length c.args.bytes.now) c.args.now
+    → c.decide-heard.result ≡ unlimited_hears c.args.self.now c.args.from p (length c.args.bytes.now) c.args.now
 judged c p begins =
-    c.judge-heard.ensures.packet p begins
+    c.decide-heard.ensures.packet p begins
     ∙ ap (λ (v : ServerView). server_hears v c.args.from p (length c.args.bytes.now) c.args.now) (met c p begins)
 
 kept : (c : goal.After-limit) (p : PacketView) → BeginsWith c.args.bytes.now p
     → c.keep.new.self ≡ server_unlimited c.args.self.now c.args.from p (length c.args.bytes.now) c.args.now
 kept c p begins =
-    c.keep.ensures ∙ ap (server_hearing c.judge-heard.result c.args.from c.args.now) (met c p begins)
+    c.keep.ensures ∙ ap (server_hearing c.decide-heard.result c.args.from c.args.now) (met c p begins)
     ∙ ap (λ (heard : Disposition). server_hearing heard c.args.from c.args.now (server_met c.args.from p.header (length c.args.bytes.now) c.args.now (server_aged c.args.now c.args.self.now))) (judged c p begins)
 
 -- limits drop it, or leave what becomes of it
-sound : (c : goal.After-limit) → IsSoundHearing c.meet.new.self c.args.from (length c.args.bytes.now) c.limit.result
+sound : (c : goal.After-limit) → IsSoundHearing c.recognise.new.self c.args.from (length c.args.bytes.now) c.limit.result
 sound c =
-    subst (λ (heard : Disposition). IsSoundHearing c.meet.new.self c.args.from (length c.args.bytes.now) heard) (sym c.limit.ensures.value)
-    (sound_limited c.meet.new.self c.keep.new.self c.judge-heard.result c.args.from (length c.args.bytes.now) c.args.now c.judge-heard.ensures.sound)
+    subst (λ (heard : Disposition). IsSoundHearing c.recognise.new.self c.args.from (length c.args.bytes.now) heard) (sym c.limit.ensures.value)
+    (sound_limited c.recognise.new.self c.keep.new.self c.decide-heard.result c.args.from (length c.args.bytes.now) c.args.now c.decide-heard.ensures.sound)
 
 -- they leave the clients, and what is known of those of joined routers
 clients : (c : goal.After-limit) → c.limit.new.self.clients ≡ c.keep.new.self.clients
 clients c =
     ap (λ (v : ServerView). v.clients) c.limit.ensures.server
-    ∙ limiting_keeps (λ (v : ServerView). v.clients) (λ l f k d n. refl) c.keep.new.self c.judge-heard.result c.args.from c.args.now
+    ∙ limiting_keeps (λ (v : ServerView). v.clients) (λ l f k d n. refl) c.keep.new.self c.decide-heard.result c.args.from c.args.now
 
 far : (c : goal.After-limit) → c.limit.new.self.far ≡ c.keep.new.self.far
 far c =
     ap (λ (v : ServerView). v.far) c.limit.ensures.server
-    ∙ limiting_keeps (λ (v : ServerView). v.far) (λ l f k d n. refl) c.keep.new.self c.judge-heard.result c.args.from c.args.now
+    ∙ limiting_keeps (λ (v : ServerView). v.far) (λ l f k d n. refl) c.keep.new.self c.decide-heard.result c.args.from c.args.now
 
 pub returns-clause-malformed : goal.returns-clause-malformed
 returns-clause-malformed c =
     λ f faulty.
     c.limit.ensures.value
-    ∙ ap (λ (heard : Disposition). limited_hears c.keep.new.self heard c.args.from c.args.now) (c.judge-heard.ensures.malformed f faulty)
+    ∙ ap (λ (heard : Disposition). limited_hears c.keep.new.self heard c.args.from c.args.now) (c.decide-heard.ensures.malformed f faulty)
     ∙ dropped_stays c.keep.new.self (Malformed f) c.args.from c.args.now
 
 pub returns-clause-packet : goal.returns-clause-packet
 returns-clause-packet c =
     λ p begins.
     c.limit.ensures.value
-    ∙ ap (λ (v : ServerView). limited_hears v c.judge-heard.result c.args.from c.args.now) (kept c p begins)
+    ∙ ap (λ (v : ServerView). limited_hears v c.decide-heard.result c.args.from c.args.now) (kept c p begins)
     ∙ ap (λ (heard : Disposition). limited_hears (server_unlimited c.args.self.now c.args.from p (length c.args.bytes.now) c.args.now) heard c.args.from c.args.now) (judged c p begins)
 
 pub returns-clause-server : goal.returns-clause-server
 returns-clause-server c =
     λ p begins.
     c.limit.ensures.server
-    ∙ ap (λ (v : ServerView). server_limiting v c.judge-heard.result c.args.from c.args.now) (kept c p begins)
+    ∙ ap (λ (v : ServerView). server_limiting v c.decide-heard.result c.args.from c.args.now) (kept c p begins)
     ∙ ap (λ (heard : Disposition). server_limiting (server_unlimited c.args.self.now c.args.from p (length c.args.bytes.now) c.args.now) heard c.args.from c.args.now) (judged c p begins)
 
 pub returns-clause-unread : goal.returns-clause-unread
 returns-clause-unread c =
     λ f faulty.
     c.limit.ensures.server
-    ∙ ap (λ (heard : Disposition). server_limiting c.keep.new.self heard c.args.from c.args.now) (c.judge-heard.ensures.malformed f faulty)
+    ∙ ap (λ (heard : Disposition). server_limiting c.keep.new.self heard c.args.from c.args.now) (c.decide-heard.ensures.malformed f faulty)
     ∙ dropped_leaves c.keep.new.self (Malformed f) c.args.from c.args.now
     ∙ c.keep.ensures
-    ∙ ap (λ (heard : Disposition). server_hearing heard c.args.from c.args.now c.meet.new.self) (c.judge-heard.ensures.malformed f faulty)
-    ∙ ap (server_dropping (Malformed f)) (c.meet.ensures.malformed f faulty ∙ c.age.ensures.aged)
+    ∙ ap (λ (heard : Disposition). server_hearing heard c.args.from c.args.now c.recognise.new.self) (c.decide-heard.ensures.malformed f faulty)
+    ∙ ap (server_dropping (Malformed f)) (c.recognise.ensures.malformed f faulty ∙ c.age.ensures.aged)
 
 pub returns-clause-stays : goal.returns-clause-stays
 returns-clause-stays c =
-    let heard = c.judge-heard.result in
+    let heard = c.decide-heard.result in
     let limits = c.limit.ensures.server in
-    let kept = hearing_rest heard c.args.from c.args.now c.meet.new.self in (
+    let kept = hearing_rest heard c.args.from c.args.now c.recognise.new.self in (
       ap (λ (v : ServerView). v.port) limits ∙ limiting_keeps (λ (v : ServerView). v.port) (λ l f k d n. refl) c.keep.new.self heard c.args.from c.args.now
           ∙ ap (λ (v : ServerView). v.port) c.keep.ensures ∙ ap (λ r. r.0) kept ∙ ap (λ (v : ServerView). v.port) (rest c),
       ap (λ (v : ServerView). v.max_clients) limits ∙ limiting_keeps (λ (v : ServerView). v.max_clients) (λ l f k d n. refl) c.keep.new.self heard c.args.from c.args.now
@@ -127,36 +127,36 @@ returns-clause-registration c =
     let from = c.args.from in
     let now = c.args.now in
     let size = length c.args.bytes.now in
-    let heard = c.judge-heard.result in
-    let l = c.meet.new.self in
+    let heard = c.decide-heard.result in
+    let l = c.recognise.new.self in
     let aged : ServerView = server_aged now c.args.self.now in
     λ p begins is.
     let nobody : l ≡ aged = met c p begins ∙ ap (λ (b : Bool). if b then server_admitting from now aged else aged) (registers_nobody aged from p.header size now is) in
-    let of = ap is_of_client (c.judge-heard.ensures.packet p begins) ∙ registers_no_client l from p size now is in
+    let of = ap is_of_client (c.decide-heard.ensures.packet p begins) ∙ registers_no_client l from p size now is in
     clients c ∙ ap (λ (v : ServerView). v.clients) c.keep.ensures ∙ others_clients heard from now l of ∙ ap (λ (v : ServerView). v.clients) nobody
 
 pub returns-clause-sender : goal.returns-clause-sender
 returns-clause-sender c =
     let from = c.args.from in
     let now = c.args.now in
-    let heard = c.judge-heard.result in
-    let l = c.meet.new.self in
+    let heard = c.decide-heard.result in
+    let l = c.recognise.new.self in
     λ passed.
     let sent : is_of_client heard ≡ true = client_limited c.keep.new.self heard from now (sym (ap is_of_client c.limit.ensures.value) ∙ passed) in
     ap (client_at from) (clients c)
     ∙ ap (λ (v : ServerView). client_at from v.clients) c.keep.ensures ∙ ap (client_at from) (hearing_clients heard from now l sent)
-    ∙ met_heard from now c.age.new.self l c.meet.ensures.known (c.judge-heard.ensures.sound.sender sent)
+    ∙ met_heard from now c.age.new.self l c.recognise.ensures.known (c.decide-heard.ensures.sound.sender sent)
     ∙ ap (λ (v : ServerView). Some (client_heard (node_of_place v.port from) from now (client_at from v.clients))) c.age.ensures.aged
 
 pub returns-clause-remains : goal.returns-clause-remains
 returns-clause-remains c =
     let from = c.args.from in
     let now = c.args.now in
-    let heard = c.judge-heard.result in
-    let l = c.meet.new.self in
+    let heard = c.decide-heard.result in
+    let l = c.recognise.new.self in
     λ place k found late.
     let left : client_at place c.age.new.self.clients ≡ Some k = ap (λ (v : ServerView). client_at place v.clients) c.age.ensures.aged ∙ recent_left now place c.args.self.now.clients k found late in
-    let met_too = met_remains from place now c.age.new.self l k c.meet.ensures.known c.age.ensures.few c.age.ensures.once left late in
+    let met_too = met_remains from place now c.age.new.self l k c.recognise.ensures.known c.age.ensures.few c.age.ensures.once left late in
     ap (λ (known : List Client). is_some (client_at place known)) (clients c)
     ∙ ap (λ (v : ServerView). is_some (client_at place v.clients)) c.keep.ensures ∙ client_kept heard from place now l met_too
 
@@ -165,15 +165,15 @@ returns-clause-taker c =
     λ place e.
     ap (λ (known : List Client). is_some (client_at place known)) (clients c)
     ∙ ap (λ (v : ServerView). is_some (client_at place v.clients)) c.keep.ensures
-    ∙ client_kept c.judge-heard.result c.args.from place c.args.now c.meet.new.self ((sound c).taker place e)
+    ∙ client_kept c.decide-heard.result c.args.from place c.args.now c.recognise.new.self ((sound c).taker place e)
 
 pub returns-clause-core : goal.returns-clause-core
 returns-clause-core c =
-    let l = c.meet.new.self in
+    let l = c.recognise.new.self in
     λ p begins passed.
-    let goes : goes_to_core c.judge-heard.result ≡ true = core_limited c.keep.new.self c.judge-heard.result c.args.from c.args.now (sym (ap goes_to_core c.limit.ensures.value) ∙ passed) in
+    let goes : goes_to_core c.decide-heard.result ≡ true = core_limited c.keep.new.self c.decide-heard.result c.args.from c.args.now (sym (ap goes_to_core c.limit.ensures.value) ∙ passed) in
     subst (λ (v : ServerView). may_reach_core v.port p ≡ true) (rest c)
-    (core_law l c.args.from p (length c.args.bytes.now) c.args.now (subst (λ (heard : Disposition). goes_to_core heard ≡ true) (c.judge-heard.ensures.packet p begins) goes))
+    (core_law l c.args.from p (length c.args.bytes.now) c.args.now (subst (λ (heard : Disposition). goes_to_core heard ≡ true) (c.decide-heard.ensures.packet p begins) goes))
 
 pub returns-clause-ring : goal.returns-clause-ring
 returns-clause-ring c = λ is. (stays c is).ring
@@ -191,10 +191,10 @@ pub returns-clause-members : goal.returns-clause-members
 returns-clause-members c =
     λ is.
     clients c ∙ ap (λ (v : ServerView). v.clients) c.keep.ensures
-    ∙ others_clients c.judge-heard.result c.args.from c.args.now c.meet.new.self (c.judge-heard.ensures.sound.joined (routers c ∙ is)).client
-    ∙ ap (λ (v : ServerView). v.clients) (met_joined c.args.from c.args.now c.age.new.self c.meet.new.self c.meet.ensures.known (before c is) ∙ c.age.ensures.aged)
+    ∙ others_clients c.decide-heard.result c.args.from c.args.now c.recognise.new.self (c.decide-heard.ensures.sound.joined (routers c ∙ is)).client
+    ∙ ap (λ (v : ServerView). v.clients) (met_joined c.args.from c.args.now c.age.new.self c.recognise.new.self c.recognise.ensures.known (before c is) ∙ c.age.ensures.aged)
 
 pub returns-clause-told : goal.returns-clause-told
 returns-clause-told c =
     λ apart.
-    far c ∙ ap (λ (v : ServerView). v.far) c.keep.ensures ∙ hearing_far c.judge-heard.result c.args.from c.args.now c.meet.new.self (c.judge-heard.ensures.sound.member (routers c ∙ apart)) ∙ ap (λ (v : ServerView). v.far) (rest c)
+    far c ∙ ap (λ (v : ServerView). v.far) c.keep.ensures ∙ hearing_far c.decide-heard.result c.args.from c.args.now c.recognise.new.self (c.decide-heard.ensures.sound.member (routers c ∙ apart)) ∙ ap (λ (v : ServerView). v.far) (rest c)

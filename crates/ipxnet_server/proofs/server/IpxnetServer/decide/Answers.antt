@@ -5,7 +5,7 @@ use Rattle.ipx_wire.specs.Assigned.{ipx_header_size}
 use Rattle.ipx_wire.specs.Ipx.{packet_view}
 use Rattle.ipxnet_server.specs.ServerInside.{IsSoundHearing}
 use Rattle.ipxnet_server.proofs.Hears.{dropped_hears, sound_hearing}
-use Rattle.ipxnet_server.proofs.server.IpxnetServer.judge.Goals as goal
+use Rattle.ipxnet_server.proofs.server.IpxnetServer.decide.Goals as goal
 
 pub returns-in-Ok-clause-sound : goal.returns-in-Ok-clause-sound
 returns-in-Ok-clause-sound c =

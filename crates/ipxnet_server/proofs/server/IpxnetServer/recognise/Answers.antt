@@ -3,7 +3,7 @@ use Rattle.std.specs.Prelude.{if◌then◌else◌}
 use Rattle.ipx_wire.specs.declared.ipx.packet.IpxHeader.{IpxHeader}
 use Rattle.ipxnet_server.specs.ServerHears.{ServerView, makes_client, server_admitting}
 use Rattle.ipxnet_server.proofs.Once.{some_is}
-use Rattle.ipxnet_server.proofs.server.IpxnetServer.meet.Goals as goal
+use Rattle.ipxnet_server.proofs.server.IpxnetServer.recognise.Goals as goal
 
 pub returns-in_default-clause-packet : goal.returns-in_default-clause-packet
 returns-in_default-clause-packet c = λ p begins. cc (c.header_of.ensures.packet p begins, c.in_default.is)

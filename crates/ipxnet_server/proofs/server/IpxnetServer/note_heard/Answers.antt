@@ -3,7 +3,7 @@ use Rattle.std.specs.Prelude.{All}
 use Rattle.ipxnet_server.specs.ServerClients.{HasPlaceNode}
 use Rattle.ipxnet_server.specs.ServerInside.{ClientsView}
 use Rattle.ipxnet_server.proofs.Once.{nodes_heard}
-use Rattle.ipxnet_server.proofs.server.IpxnetServer.know.Goals as goal
+use Rattle.ipxnet_server.proofs.server.IpxnetServer.note_heard.Goals as goal
 
 pub invariant_of-self : goal.invariant_of-self
 invariant_of-self c =
