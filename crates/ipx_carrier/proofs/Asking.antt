@@ -1,7 +1,8 @@
 -- The ports of a device, asked one after another.
-use Rattle.std.proofs.Common.{◌≡◌, ◌<◌, ℕ, ◌+◌, Bool, List, [], ◌∷◌, ◌++◌, length, Option, is_some, refl, sym, ap, ◌∙◌, subst, arith, cond, length-append}
+use Rattle.std.proofs.Common.{◌≡◌, ◌<◌, ℕ, ◌+◌, Bool, List, [], ◌∷◌, ◌++◌, length, Option, Some, is_some, refl, sym, ap, ◌∙◌, subst, arith, cond, length-append}
 use Rattle.ipx_carrier.specs.declared.fault.RunFault.{RunFault}
-use Rattle.ipx_carrier.specs.Device.{Reception, TrafficOf}
+use Rattle.ipx_carrier.specs.declared.fault.RunFault.TheVariants.{OutOfMemory}
+use Rattle.ipx_carrier.specs.Device.{Passes, Reception, TrafficOf}
 use Rattle.ipx_carrier.specs.Turns.{FailsAtPort, HearsAnswer, HearsEach}
 use Rattle.ipx_carrier.specs.Counts.{heard_in}
 use Rattle.ipx_carrier.specs.Parts.{PollFails, AsksPort, AsksPorts, AsksSomePorts}
@@ -39,7 +40,13 @@ asked_more hears receives now size port s t u x y a b c count more heard h k e =
       e ∙ ap (λ b. count + cond b 1 0) is ∙ ap (λ n. n + cond (is_some k.0) 1 0) counted ∙ sym (heard_more rs port k.0),
     )
 
-pub asked_some : {C S A : Type 0} (hears hear_out_of_memory : Hears C) (receives : S → ℕ → ℕ → Option (List ℕ) → S → Type 0) (now size port ports : ℕ) (s t u : Option (TrafficOf A)) (x y : S) (a b c : C) (count : ℕ) (f : RunFault) → AsksPorts hears now port s t a b count → PollFails hear_out_of_memory receives now size port t u f x y b c → port < ports → AsksSomePorts hears hear_out_of_memory now ports s u f a c
-asked_some hears hear_out_of_memory receives now size port ports s t u x y a b c count f h k e =
+pub asked_some : {C S A : Type 0} (hears hear_out_of_memory : Hears C) (receives : S → ℕ → ℕ → Option (List ℕ) → S → Type 0) (fails_to_receive : S → ℕ → ℕ → S → Type 0) (now size port ports : ℕ) (s t u : Option (TrafficOf A)) (x y : S) (a b c : C) (count : ℕ) (f : RunFault) → AsksPorts hears now port s t a b count → PollFails hear_out_of_memory receives fails_to_receive now size port t u f x y b c → port < ports → AsksSomePorts hears hear_out_of_memory now ports s u f a c
+asked_some hears hear_out_of_memory receives fails_to_receive now size port ports s t u x y a b c count f h k e =
     let long : length h.0 ≡ port = h.1 in
     (h.0, k.0, b, omega arith, passes_received s t u h.0 k.0 h.2 k.1, h.3, subst (λ n. FailsAtPort hear_out_of_memory now n k.0 f b c) (sym long) k.2)
+
+-- a port gave something, and the core ran out of memory for it
+pub poll_out_of_memory : {C S A : Type 0} (hear_out_of_memory : Hears C) (receives : S → ℕ → ℕ → Option (List ℕ) → S → Type 0) (fails_to_receive : S → ℕ → ℕ → S → Type 0) (now size port : ℕ) (bytes : List ℕ) (t u : Option (TrafficOf A)) (x y : S) (a b : C)
+    → Passes t u (record { port = port; bytes = Some bytes } ∷ []) [] → receives x port size (Some bytes) y → hear_out_of_memory a port bytes now b → PollFails hear_out_of_memory receives fails_to_receive now size port t u OutOfMemory x y a b
+poll_out_of_memory hear_out_of_memory receives fails_to_receive now size port bytes t u x y a b passes gave lost =
+    (record { port = port; bytes = Some bytes } ∷ [], passes, (bytes, refl, lost), y, (y, gave, refl), refl)

@@ -160,17 +160,18 @@ module _ {C K S : Type 0} (hears : C → ℕ → List ℕ → ℕ → C → Type
 module _ {C K S : Type 0} (hears hear_out_of_memory : C → ℕ → List ℕ → ℕ → C → Type 0)
     (gives : C → ℕ → Option Given → C → Type 0) (next_out_of_memory : C → ℕ → C → Type 0)
     (tells : K → ℕ → K → Type 0) (receives : S → ℕ → ℕ → Option (List ℕ) → S → Type 0)
-    (sends : S → Given → S → Type 0) (filtered : S → ℕ) (marked : S → Readiness) (ports size : ℕ)
+    (sends : S → Given → S → Type 0) (fails_to_receive : S → ℕ → ℕ → S → Type 0)
+    (fails_to_send : S → Given → S → Type 0) (filtered : S → ℕ) (marked : S → Readiness) (ports size : ℕ)
     {A : Type 0} (transmissions : Ways A) where
   nothing_more : (fault : Option RunFault) (o : S) (l : K) (b : C) → fault ≡ None
-      → EndsBy hears hear_out_of_memory gives next_out_of_memory tells receives sends filtered marked ports size transmissions fault o o l l b b
+      → EndsBy hears hear_out_of_memory gives next_out_of_memory tells receives sends fails_to_receive fails_to_send filtered marked ports size transmissions fault o o l l b b
   nothing_more fault o l b e =
-      subst (λ (it : Option RunFault). EndsBy hears hear_out_of_memory gives next_out_of_memory tells receives sends filtered marked ports size transmissions it o o l l b b) (sym e) (refl, refl, refl)
+      subst (λ (it : Option RunFault). EndsBy hears hear_out_of_memory gives next_out_of_memory tells receives sends fails_to_receive fails_to_send filtered marked ports size transmissions it o o l l b b) (sym e) (refl, refl, refl)
 
   -- no fault ended the batch, and it is not quiet: all turns were taken
   pub ends_at_most : (count most : ℕ) (o p : S) (k l : K) (a b : C) (x : Batch) → count ≡ most → x.fault ≡ None → x.quiet ≡ false
       → Goes hears gives tells receives sends filtered marked ports size transmissions count x o p k l a b
-      → BurstsBy hears hear_out_of_memory gives next_out_of_memory tells receives sends filtered marked ports size transmissions most x o p k l a b
+      → BurstsBy hears hear_out_of_memory gives next_out_of_memory tells receives sends fails_to_receive fails_to_send filtered marked ports size transmissions most x o p k l a b
   ends_at_most count most o p k l a b x all e f h = (
     h.0,
     p,
@@ -188,11 +189,11 @@ module _ {C K S : Type 0} (hears hear_out_of_memory : C → ℕ → List ℕ →
       → filtered q ≡ filtered p
       → TakesMarkedTurn hears gives tells receives sends marked here wide there p q l m b c report → (report.heard ≡ 0) × (report.sent ≡ 0)
       → CountsOne report x y → y.fault ≡ None → z ≡ record y { quiet = true }
-      → BurstsBy hears hear_out_of_memory gives next_out_of_memory tells receives sends filtered marked ports size transmissions most z o q k m a c
+      → BurstsBy hears hear_out_of_memory gives next_out_of_memory tells receives sends fails_to_receive fails_to_send filtered marked ports size transmissions most z o q k m a c
   unfolding one_more
   ends_quietly here wide count most there o p q k l m a b c x y z report e v w few h same ran idle counts f is =
       let last = taken report (filtered p) (filtered q) in
-      subst (λ (it : Batch). BurstsBy hears hear_out_of_memory gives next_out_of_memory tells receives sends filtered marked ports size transmissions most it o q k m a c) (sym is) (
+      subst (λ (it : Batch). BurstsBy hears hear_out_of_memory gives next_out_of_memory tells receives sends fails_to_receive fails_to_send filtered marked ports size transmissions most it o q k m a c) (sym is) (
         h.0 ++ last ∷ [],
         q,
         m,
@@ -207,10 +208,10 @@ module _ {C K S : Type 0} (hears hear_out_of_memory : C → ℕ → List ℕ →
   pub ends_badly : (here wide count most : ℕ) (there : Ways A) (o p q : S) (k l m : K) (a b c : C) (x y : Batch) (f : RunFault) → here ≡ ports → wide ≡ size
       → there ≡ transmissions → count < most → x.quiet ≡ false → y ≡ record x { fault = Some f }
       → Goes hears gives tells receives sends filtered marked ports size transmissions count x o p k l a b → filtered p ≤ filtered q
-      → BreaksMarkedTurn hears hear_out_of_memory gives next_out_of_memory tells receives sends marked here wide there f p q l m b c
-      → BurstsBy hears hear_out_of_memory gives next_out_of_memory tells receives sends filtered marked ports size transmissions most y o q k m a c
+      → BreaksMarkedTurn hears hear_out_of_memory gives next_out_of_memory tells receives sends fails_to_receive fails_to_send marked here wide there f p q l m b c
+      → BurstsBy hears hear_out_of_memory gives next_out_of_memory tells receives sends fails_to_receive fails_to_send filtered marked ports size transmissions most y o q k m a c
   ends_badly here wide count most there o p q k l m a b c x y f e v w few loud is h le how =
-      subst (λ (it : Batch). BurstsBy hears hear_out_of_memory gives next_out_of_memory tells receives sends filtered marked ports size transmissions most it o q k m a c) (sym is) (
+      subst (λ (it : Batch). BurstsBy hears hear_out_of_memory gives next_out_of_memory tells receives sends fails_to_receive fails_to_send filtered marked ports size transmissions most it o q k m a c) (sym is) (
         h.0,
         p,
         l,
@@ -218,9 +219,9 @@ module _ {C K S : Type 0} (hears hear_out_of_memory : C → ℕ → List ℕ →
         h.2,
         (
           le,
-          subst (λ (it : Ways A). BreaksMarkedTurn hears hear_out_of_memory gives next_out_of_memory tells receives sends marked ports size it f p q l m b c) w
-              (subst (λ n. BreaksMarkedTurn hears hear_out_of_memory gives next_out_of_memory tells receives sends marked ports n there f p q l m b c) v
-              (subst (λ n. BreaksMarkedTurn hears hear_out_of_memory gives next_out_of_memory tells receives sends marked n wide there f p q l m b c) e how)),
+          subst (λ (it : Ways A). BreaksMarkedTurn hears hear_out_of_memory gives next_out_of_memory tells receives sends fails_to_receive fails_to_send marked ports size it f p q l m b c) w
+              (subst (λ n. BreaksMarkedTurn hears hear_out_of_memory gives next_out_of_memory tells receives sends fails_to_receive fails_to_send marked ports n there f p q l m b c) v
+              (subst (λ n. BreaksMarkedTurn hears hear_out_of_memory gives next_out_of_memory tells receives sends fails_to_receive fails_to_send marked n wide there f p q l m b c) e how)),
         ),
         h.3,
         (omega (arith, h.1, few), h.4, loud),

@@ -124,9 +124,9 @@ module _ {C : Type 0} (hears hear_out_of_memory : C → ℕ → List ℕ → ℕ
         (r', told, refl),
       )
 
-  pub ends_sending : {S : Type 0} (sends : S → Given → S → Type 0) (now : ℕ) (there : Ways A) (s t u : Option (TrafficOf A)) (x y : S) (r r' : K) (f : RunFault) (a b c : C) (heard : ℕ) → tells r now r' → there ≡ transmissions → AsksPorts hears now ports s t a b heard → SendsSome gives next_out_of_memory sends 64 now there t u f x y b c → EndsEarlyBy hears hear_out_of_memory gives next_out_of_memory tells ports transmissions 1 s u r r' f a c
-  ends_sending sends now there s t u x y r r' f a b c heard told is h k' =
-      let k = subst (λ w. SendsSome gives next_out_of_memory sends 64 now w t u f x y b c) is k' in
+  pub ends_sending : {S : Type 0} (sends fails_to_send : S → Given → S → Type 0) (now : ℕ) (there : Ways A) (s t u : Option (TrafficOf A)) (x y : S) (r r' : K) (f : RunFault) (a b c : C) (heard : ℕ) → tells r now r' → there ≡ transmissions → AsksPorts hears now ports s t a b heard → SendsSome gives next_out_of_memory sends fails_to_send 64 now there t u f x y b c → EndsEarlyBy hears hear_out_of_memory gives next_out_of_memory tells ports transmissions 1 s u r r' f a c
+  ends_sending sends fails_to_send now there s t u x y r r' f a b c heard told is h k' =
+      let k = subst (λ w. SendsSome gives next_out_of_memory sends fails_to_send 64 now w t u f x y b c) is k' in
       let turn : Turn = record { moment = now; answers = h.0; packets = k.0 } in
       let passed : Passes s u (h.0 ++ []) k.1 = passes_on s t u h.0 [] [] k.1 h.2 k.3 in (
         [],

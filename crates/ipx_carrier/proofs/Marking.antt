@@ -9,8 +9,8 @@ use Rattle.ipx_carrier.specs.declared.fault.RunFault.TheVariants.{Device, OutOfM
 use Rattle.ipx_carrier.specs.declared.report.SendCounts.{SendCounts}
 use Rattle.ipx_carrier.specs.Counts.{heard_in}
 use Rattle.ipx_carrier.specs.Device.{Reception, TrafficOf}
-use Rattle.ipx_carrier.specs.DriverTurns.{AsksEach, SendsUntil}
-use Rattle.ipx_carrier.specs.MarkedTurns.{AsksMarkedPorts, AsksSomeMarkedPorts, BreaksMarkedTurn, TakesMarkedTurn}
+use Rattle.ipx_carrier.specs.DriverTurns.{AsksEach, EndsAsking, SendsUntil}
+use Rattle.ipx_carrier.specs.MarkedTurns.{AsksMarkedPorts, AsksSomeMarkedPorts, BreaksMarkedTurn, EndsTurn, TakesMarkedTurn}
 use Rattle.ipx_carrier.specs.Parts.{AsksPort, PollFails, SendsAll, SendsSome}
 use Rattle.ipx_carrier.specs.Readiness.{AsksPortWithMark, EndsInNone, FailsWithMark, MarksFollow, MarksStay, Readiness}
 use Rattle.ipx_carrier.specs.ReadySet.{is_port_marked}
@@ -19,15 +19,6 @@ use Rattle.ipx_carrier.specs.Waits.{answers_of_port}
 use Rattle.ipx_carrier.proofs.Asking.{heard_more, hears_more}
 use Rattle.ipx_carrier.proofs.Courses.{report_one, turn_report}
 use Rattle.ipx_carrier.proofs.DriverStates.{asks_on, asks_one_more}
-
--- a device that failed is no memory that ran out
-is_memory : RunFault → Type 0
-is_memory Device = ⊥
-is_memory OutOfMemory = Unit {0}
-
-no_memory : ◌≡◌ {A = RunFault} Device OutOfMemory → ⊥
-unfolding is_memory
-no_memory e = subst is_memory (sym e) tt
 
 is_on : Bool → Type 0
 is_on true = Unit {0}
@@ -132,27 +123,21 @@ module _ {C S : Type 0} (hears : C → ℕ → List ℕ → ℕ → C → Type 0
       )
 
 module _ {C S : Type 0} (hears hear_out_of_memory : C → ℕ → List ℕ → ℕ → C → Type 0)
-    (receives : S → ℕ → ℕ → Option (List ℕ) → S → Type 0) (marked : S → Readiness) (now size : ℕ) where
+    (receives : S → ℕ → ℕ → Option (List ℕ) → S → Type 0) (fails_to_receive : S → ℕ → ℕ → S → Type 0)
+    (marked : S → Readiness) (now size : ℕ) where
   follow_fault : (port : ℕ) (last : List Reception) (f : RunFault) (m n : Readiness) (b c : C)
       → FailsAtPort hear_out_of_memory now port last f b c → FailsWithMark port f m n → MarksFollow last m n
   follow_fault port last Device m n b c k w = subst (λ (rs : List Reception). MarksFollow rs m n) (sym k.0) (follow_nothing m n w.0)
   follow_fault port last OutOfMemory m n b c k w =
       subst (λ (rs : List Reception). MarksFollow rs m n) (sym k.1) (follow_one port (Some k.0) m n (stay_marked port m n w.0 (w.1 refl)))
 
-  -- the answers before the fault, and the driver then
-  asks_before : (port : ℕ) (rs last : List Reception) (f : RunFault) (x y z : S) (b c : C) → AsksEach receives size rs x y
-      → FailsAtPort hear_out_of_memory now port last f b c → (f ≡ OutOfMemory → AsksEach receives size last y z)
-      → (asked : S) × AsksEach receives size (rs ++ last) x asked × (f ≡ OutOfMemory → z ≡ asked)
-  asks_before port rs last Device x y z b c h k w =
-      (y, subst (λ (ss : List Reception). AsksEach receives size (rs ++ ss) x y) (sym k.0) (asks_on receives size rs [] x y y h refl), λ e. absurd (no_memory e))
-  asks_before port rs last OutOfMemory x y z b c h k w = (z, asks_on receives size rs last x y z h (w refl), λ e. refl)
-
   pub asks_some : {A : Type 0} (wide port ports : ℕ) (t u : Option (TrafficOf A)) (x y z : S) (a b c : C) (count : ℕ) (f : RunFault)
-      → wide ≡ size → AsksMarkedPorts hears receives marked now size port x y a b count → PollFails hear_out_of_memory receives now wide port t u f y z b c → FailsWithMark port f (marked y) (marked z)
-      → port < ports → AsksSomeMarkedPorts hears hear_out_of_memory receives marked now size ports f x z a c
+      → wide ≡ size → AsksMarkedPorts hears receives marked now size port x y a b count → PollFails hear_out_of_memory receives fails_to_receive now wide port t u f y z b c → FailsWithMark port f (marked y) (marked z)
+      → port < ports → AsksSomeMarkedPorts hears hear_out_of_memory receives fails_to_receive marked now size ports f x z a c
   asks_some wide port ports t u x y z a b c count f same h k w e =
       let long : length h.0 ≡ port = h.1 in
-      let before = asks_before port h.0 k.0 f x y z b c h.5 k.2 (subst (λ n. f ≡ OutOfMemory → AsksEach receives n k.0 y z) same k.3) in (
+      let asked : AsksEach receives size k.0 y k.3 = subst (λ n. AsksEach receives n k.0 y k.3) same k.4 in
+      let ends : EndsAsking fails_to_receive port size f k.3 z = subst (λ n. EndsAsking fails_to_receive port n f k.3 z) same k.5 in (
         h.0,
         k.0,
         b,
@@ -160,9 +145,9 @@ module _ {C S : Type 0} (hears hear_out_of_memory : C → ℕ → List ℕ → �
         h.2,
         subst (λ n. FailsAtPort hear_out_of_memory now n k.0 f b c) (sym long) k.2,
         follow_on h.0 k.0 (marked x) (marked y) (marked z) h.4 (follow_fault port k.0 f (marked y) (marked z) b c k.2 w),
-        before.0,
-        before.1,
-        before.2,
+        k.3,
+        asks_on receives size h.0 k.0 x y k.3 h.5 asked,
+        subst (λ n. EndsAsking fails_to_receive n size f k.3 z) (sym long) ends,
       )
 
 module _ {C K S : Type 0} (hears : C → ℕ → List ℕ → ℕ → C → Type 0)
@@ -181,25 +166,36 @@ module _ {C K S : Type 0} (hears : C → ℕ → List ℕ → ℕ → C → Type
 module _ {C K S : Type 0} (hears hear_out_of_memory : C → ℕ → List ℕ → ℕ → C → Type 0)
     (gives : C → ℕ → Option Given → C → Type 0) (next_out_of_memory : C → ℕ → C → Type 0)
     (tells : K → ℕ → K → Type 0) (receives : S → ℕ → ℕ → Option (List ℕ) → S → Type 0)
-    (sends : S → Given → S → Type 0) (marked : S → Readiness) (ports size : ℕ) {A : Type 0} (transmissions : Ways A) where
+    (sends : S → Given → S → Type 0) (fails_to_receive : S → ℕ → ℕ → S → Type 0)
+    (fails_to_send : S → Given → S → Type 0) (marked : S → Readiness) (ports size : ℕ) {A : Type 0}
+    (transmissions : Ways A) where
   -- a fault among the ports: nothing was sent
-  nothing_sent : (f : RunFault) (asked z : S) → (f ≡ OutOfMemory → z ≡ asked) → SendsUntil sends [] f asked z
-  nothing_sent Device asked z same = (asked, refl)
-  nothing_sent OutOfMemory asked z same = same refl
+  nothing_sent : (now : ℕ) (f : RunFault) (heard last : List Reception) (asked z : S) (b c : C) → FailsAtPort hear_out_of_memory now (length heard) last f b c
+      → EndsAsking fails_to_receive (length heard) size f asked z
+      → EndsTurn sends fails_to_receive fails_to_send size (record { moment = now; answers = heard ++ last; packets = [] }) f asked z
+  nothing_sent now Device heard last asked z b c k w =
+      let all : length (heard ++ last) ≡ length heard = ap length (ap (λ (rs : List Reception). heard ++ rs) k.0 ∙ append-nil heard) in
+      inr (refl, subst (λ n. fails_to_receive asked n size z) (sym all) w)
+  nothing_sent now OutOfMemory heard last asked z b c k w = w
 
-  pub fault_hearing : (now : ℕ) (f : RunFault) (x z : S) (r s : K) (a b : C) → tells r now s → AsksSomeMarkedPorts hears hear_out_of_memory receives marked now size ports f x z a b
-      → BreaksMarkedTurn hears hear_out_of_memory gives next_out_of_memory tells receives sends marked ports size transmissions f x z r s a b
+  pub fault_hearing : (now : ℕ) (f : RunFault) (x z : S) (r s : K) (a b : C) → tells r now s → AsksSomeMarkedPorts hears hear_out_of_memory receives fails_to_receive marked now size ports f x z a b
+      → BreaksMarkedTurn hears hear_out_of_memory gives next_out_of_memory tells receives sends fails_to_receive fails_to_send marked ports size transmissions f x z r s a b
   fault_hearing now f x z r s a b told h =
       let turn : Turn = record { moment = now; answers = h.0 ++ h.1; packets = [] } in
-      (turn, [], inl (h.0, h.1, h.2, refl, h.3, h.4, h.5, refl, refl), told, h.6, h.7, h.8, nothing_sent f h.7 z h.9)
+      (turn, [], inl (h.0, h.1, h.2, refl, h.3, h.4, h.5, refl, refl), told, h.6, h.7, h.8, nothing_sent now f h.0 h.1 h.7 z h.2 b h.5 h.9)
+
+  -- a fault after them: packets were sent
+  some_sent : (f : RunFault) (t : Turn) (asked z : S) → SendsUntil sends fails_to_send t.packets f asked z → EndsTurn sends fails_to_receive fails_to_send size t f asked z
+  some_sent Device t asked z h = inl h
+  some_sent OutOfMemory t asked z h = h
 
   pub fault_sending : (now : ℕ) (there : Ways A) (t u : Option (TrafficOf A)) (x y z : S) (r s : K) (f : RunFault) (a b c : C) (heard : ℕ)
-      → tells r now s → there ≡ transmissions → AsksMarkedPorts hears receives marked now size ports x y a b heard → SendsSome gives next_out_of_memory sends 64 now there t u f y z b c
-      → MarksStay (marked y) (marked z) → BreaksMarkedTurn hears hear_out_of_memory gives next_out_of_memory tells receives sends marked ports size transmissions f x z r s a c
+      → tells r now s → there ≡ transmissions → AsksMarkedPorts hears receives marked now size ports x y a b heard → SendsSome gives next_out_of_memory sends fails_to_send 64 now there t u f y z b c
+      → MarksStay (marked y) (marked z) → BreaksMarkedTurn hears hear_out_of_memory gives next_out_of_memory tells receives sends fails_to_receive fails_to_send marked ports size transmissions f x z r s a c
   fault_sending now there t u x y z r s f a b c heard told is h k' stay =
-      let k = subst (λ w. SendsSome gives next_out_of_memory sends 64 now w t u f y z b c) is k' in
+      let k = subst (λ w. SendsSome gives next_out_of_memory sends fails_to_send 64 now w t u f y z b c) is k' in
       let turn : Turn = record { moment = now; answers = h.0; packets = k.0 } in
-      (turn, k.1, inr (h.1, b, h.2, k.2), told, follow_stays h.0 (marked x) (marked y) (marked z) h.4 stay, y, h.5, k.4)
+      (turn, k.1, inr (h.1, b, h.2, k.2), told, follow_stays h.0 (marked x) (marked y) (marked z) h.4 stay, y, h.5, some_sent f turn y z k.4)
 
 -- one mark of a list is cleared
 cleared_at : (marks : List Bool) (port : ℕ) → is_port_marked (slice_set marks port false) port ≡ false

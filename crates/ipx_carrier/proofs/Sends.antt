@@ -1,6 +1,6 @@
 -- Packets of a core, sent one after another.
-use Rattle.std.proofs.Common.{◌≡◌, ◌≤◌, ◌<◌, ℕ, zero, suc, ◌+◌, false, List, [], ◌∷◌, ◌++◌, length, map, Option, Some, None, Result, Ok, Err, refl, sym, ap, ◌∙◌, subst, append_assoc, append-nil, arith, cond, length-append, take, get_or, inl, inr, lit≤, lit<, add-zero, is_none, unwrap_or}
-use Rattle.std.specs.Prelude.{OnErr, option_map}
+use Rattle.std.proofs.Common.{◌≡◌, ◌≤◌, ◌<◌, ℕ, zero, suc, ◌+◌, false, true, List, [], ◌∷◌, ◌++◌, length, map, Option, Some, None, Result, Ok, Err, refl, sym, ap, ◌∙◌, subst, append_assoc, append-nil, arith, cond, length-append, take, get_or, inl, inr, lit≤, lit<, add-zero, is_none, unwrap_or}
+use Rattle.std.specs.Prelude.{OnErr, option_map, slice_get}
 use Rattle.std.proofs.lemmas.Grind.{flat_map-append}
 use Rattle.ipx_router.specs.RouterPackets.{broadcast}
 use Rattle.ipx_router.specs.Classify.{is_node}
@@ -12,7 +12,7 @@ use Rattle.ipx_carrier.specs.Device.{Datagram, Passes, Traffic, TrafficOf}
 use Rattle.ipx_carrier.specs.Turns.{FailsAfter, FailsInLast, Given, GivesEach, IsFrontOf, Peers, Ways, by_ip, copies_of, datagram_to, sent_of}
 use Rattle.ipx_carrier.specs.SendingView.{with_one_packet}
 use Rattle.ipx_carrier.specs.Counts.{unmapped_in}
-use Rattle.ipx_carrier.specs.DriverTurns.{SendsEach}
+use Rattle.ipx_carrier.specs.DriverTurns.{SendsEach, SendsSomeOf}
 use Rattle.ipx_carrier.specs.Mapping.{ip_at}
 use Rattle.ipx_carrier.specs.Parts.{SendsAll, SendsCounted, SendsNext, SendsSome, totals_of}
 use Rattle.ipx_carrier.specs.PortDrivers.{SendsFrontOf, copies_count}
@@ -43,14 +43,26 @@ one_unsent (Ok x) peers p to s t single found e = tt
 one_unsent (Err f) peers p to s t single found e =
     rw (single, found) ([], (datagram_to p to, [], refl), passes_nothing s t e)
 
+-- how that left the device
+pub one_fails : {T E S Q : Type 0} (sends fails_to_send : S → Datagram → S → Type 0) (r : Result T E) (peers : Peers) (p : Given) (to : List ℕ) (x z : S) → Q → is_node p.node broadcast ≡ false → ip_at p.node ≡ Some to → fails_to_send x (datagram_to p to) z → OnErr r (Q × SendsSomeOf sends fails_to_send (copies_of (by_ip peers) p) x z)
+one_fails sends fails_to_send (Ok v) peers p to x z q single found h = tt
+one_fails sends fails_to_send (Err e) peers p to x z q single found h =
+    (q, rw (single, found) ([], ([], datagram_to p to, refl, x, refl, h)))
+
+-- the same of a broadcast
+pub broadcast_fails : {T E S Q : Type 0} (sends fails_to_send : S → Datagram → S → Type 0) (r : Result T E) (peers : Peers) (p : Given) (here : List (List ℕ)) (x z : S) → Q → is_node p.node broadcast ≡ true → here ≡ unwrap_or (slice_get peers p.port) [] → SendsSomeOf sends fails_to_send (map (datagram_to p) here) x z → OnErr r (Q × SendsSomeOf sends fails_to_send (copies_of (by_ip peers) p) x z)
+broadcast_fails sends fails_to_send (Ok v) peers p here x z q all same h = tt
+broadcast_fails sends fails_to_send (Err e) peers p here x z q all same h =
+    (q, rw all (subst (λ (to : List (List ℕ)). SendsSomeOf sends fails_to_send (map (datagram_to p) to) x z) same h))
+
 -- a packet whose datagrams were sent in part
-pub one_sent_in_part : {C S A : Type 0} (gives : C → ℕ → Option Given → C → Type 0) (next_out_of_memory : C → ℕ → C → Type 0) (sends : S → Given → S → Type 0) (now : ℕ) (transmissions : Ways A) (p : Given) (s t : Option (TrafficOf A)) (x y : S) (a b : C) → gives a now (Some p) b → SendsFrontOf (copies_of transmissions p) s t → SendsSome gives next_out_of_memory sends 1 now transmissions s t Device x y a b
-one_sent_in_part gives next_out_of_memory sends now transmissions p s t x y a b h k =
-    (p ∷ [], k.0, ((b, h, refl), lit≤ tt, ([], p, k.0, refl, k.1, refl)), k.2, (x, refl))
+pub one_sent_in_part : {C S A : Type 0} (gives : C → ℕ → Option Given → C → Type 0) (next_out_of_memory : C → ℕ → C → Type 0) (sends fails_to_send : S → Given → S → Type 0) (now : ℕ) (transmissions : Ways A) (p : Given) (s t : Option (TrafficOf A)) (x y : S) (a b : C) → gives a now (Some p) b → SendsFrontOf (copies_of transmissions p) s t → fails_to_send x p y → SendsSome gives next_out_of_memory sends fails_to_send 1 now transmissions s t Device x y a b
+one_sent_in_part gives next_out_of_memory sends fails_to_send now transmissions p s t x y a b h k w =
+    (p ∷ [], k.0, ((b, h, refl), lit≤ tt, ([], p, k.0, refl, k.1, refl)), k.2, ([], p, refl, x, refl, w))
 
 -- a packet for which the core runs out of memory
-pub none_sent : {C S A : Type 0} (gives : C → ℕ → Option Given → C → Type 0) (next_out_of_memory : C → ℕ → C → Type 0) (sends : S → Given → S → Type 0) (now : ℕ) (transmissions : Ways A) (s t : Option (TrafficOf A)) (x y : S) (a b : C) → next_out_of_memory a now b → t ≡ s → y ≡ x → SendsSome gives next_out_of_memory sends 1 now transmissions s t OutOfMemory x y a b
-none_sent gives next_out_of_memory sends now transmissions s t x y a b h e same =
+pub none_sent : {C S A : Type 0} (gives : C → ℕ → Option Given → C → Type 0) (next_out_of_memory : C → ℕ → C → Type 0) (sends fails_to_send : S → Given → S → Type 0) (now : ℕ) (transmissions : Ways A) (s t : Option (TrafficOf A)) (x y : S) (a b : C) → next_out_of_memory a now b → t ≡ s → y ≡ x → SendsSome gives next_out_of_memory sends fails_to_send 1 now transmissions s t OutOfMemory x y a b
+none_sent gives next_out_of_memory sends fails_to_send now transmissions s t x y a b h e same =
     ([], [], (a, refl, lit< tt, refl, h), passes_nothing s t e, same)
 
 pub gives_on : {C : Type 0} (gives : C → ℕ → Option Given → C → Type 0) (now : ℕ) (ps qs : List Given) (a b c : C) → GivesEach gives now ps a b → GivesEach gives now qs b c → GivesEach gives now (ps ++ qs) a c
@@ -70,15 +82,6 @@ fails_later {A} transmissions ps qs sent h =
       h.4,
       ap (λ ds. sent_of transmissions ps ++ ds) h.5 ∙ sym (append_assoc (sent_of transmissions ps) (sent_of transmissions before) front) ∙ ap (λ ds. ds ++ front) (sym all),
     )
-
--- memory that ran out is no failure of a device
-is_device : RunFault → Type 0
-is_device Device = Unit {0}
-is_device OutOfMemory = ⊥
-
-not_device : ◌≡◌ {A = RunFault} OutOfMemory Device → ⊥
-unfolding is_device
-not_device e = subst is_device (sym e) tt
 
 abbrev record_of : ℕ → ℕ → SendCounts
 record_of sent unmapped = record { sent = sent; unmapped = unmapped }
@@ -149,25 +152,17 @@ fails_on gives next_out_of_memory n most now transmissions ps qs sent OutOfMemor
     let none : length qs < 1 = k.2 in
     (k.0, gives_on gives now ps qs a b k.0 h k.1, omega (arith, length-append ps qs), ap (λ ds. sent_of transmissions ps ++ ds) k.3 ∙ sym all, k.4)
 
--- a device fails in one packet
-fails_in_one : {C A : Type 0} (gives : C → ℕ → Option Given → C → Type 0) (next_out_of_memory : C → ℕ → C → Type 0) (now : ℕ) (transmissions : Ways A) (qs : List Given) (sent : List A) (f : RunFault) (a b : C) → FailsAfter gives next_out_of_memory 1 now transmissions qs sent f a b → f ≡ Device → length qs ≡ 1
-fails_in_one gives next_out_of_memory now transmissions qs sent Device a b h e =
-    let most : length qs ≤ 1 = h.1 in
-    let is : length qs ≡ length (h.2.0 ++ h.2.1 ∷ []) = ap length h.2.3 in
-    omega (arith, most, is, length-append h.2.0 (h.2.1 ∷ []))
-fails_in_one gives next_out_of_memory now transmissions qs sent OutOfMemory a b h e = absurd (not_device e)
-
 -- packets that were sent, and then a fault
-module _ {C S A : Type 0} (gives : C → ℕ → Option Given → C → Type 0) (next_out_of_memory : C → ℕ → C → Type 0) (sends : S → Given → S → Type 0) (now : ℕ) (transmissions : Ways A) where
-  pub sends_in_part : (n most : ℕ) (s t u : Option (TrafficOf A)) (x y z : S) (a b c : C) (totals : SendCounts) (f : RunFault) → SendsCounted gives sends n now transmissions s t x y a b totals → n < most → SendsSome gives next_out_of_memory sends 1 now transmissions t u f y z b c → SendsSome gives next_out_of_memory sends most now transmissions s u f x z a c
+module _ {C S A : Type 0} (gives : C → ℕ → Option Given → C → Type 0) (next_out_of_memory : C → ℕ → C → Type 0) (sends fails_to_send : S → Given → S → Type 0) (now : ℕ) (transmissions : Ways A) where
+  pub sends_in_part : (n most : ℕ) (s t u : Option (TrafficOf A)) (x y z : S) (a b c : C) (totals : SendCounts) (f : RunFault) → SendsCounted gives sends n now transmissions s t x y a b totals → n < most → SendsSome gives next_out_of_memory sends fails_to_send 1 now transmissions t u f y z b c → SendsSome gives next_out_of_memory sends fails_to_send most now transmissions s u f x z a c
   sends_in_part n most s t u x y z a b c totals f h lt k = (
     h.0 ++ k.0,
     sent_of transmissions h.0 ++ k.1,
     fails_on gives next_out_of_memory n most now transmissions h.0 k.0 k.1 f a b c h.1 lt h.2 k.2,
     passes_sent s t u (sent_of transmissions h.0) k.1 h.3 k.3,
-    sends_until sends h.0 k.0 f x y z (fails_in_one gives next_out_of_memory now transmissions k.0 k.1 f b c k.2) h.5 k.4,
+    sends_until sends fails_to_send h.0 k.0 f x y z h.5 k.4,
   )
 
-  pub sends_in_part_there : (n most : ℕ) (there : Ways A) (s t u : Option (TrafficOf A)) (x y z : S) (a b c : C) (totals : SendCounts) (f : RunFault) → there ≡ transmissions → SendsCounted gives sends n now transmissions s t x y a b totals → n < most → SendsSome gives next_out_of_memory sends 1 now there t u f y z b c → SendsSome gives next_out_of_memory sends most now transmissions s u f x z a c
+  pub sends_in_part_there : (n most : ℕ) (there : Ways A) (s t u : Option (TrafficOf A)) (x y z : S) (a b c : C) (totals : SendCounts) (f : RunFault) → there ≡ transmissions → SendsCounted gives sends n now transmissions s t x y a b totals → n < most → SendsSome gives next_out_of_memory sends fails_to_send 1 now there t u f y z b c → SendsSome gives next_out_of_memory sends fails_to_send most now transmissions s u f x z a c
   sends_in_part_there n most there s t u x y z a b c totals f is h lt k =
-      sends_in_part n most s t u x y z a b c totals f h lt (subst (λ w. SendsSome gives next_out_of_memory sends 1 now w t u f y z b c) is k)
+      sends_in_part n most s t u x y z a b c totals f h lt (subst (λ w. SendsSome gives next_out_of_memory sends fails_to_send 1 now w t u f y z b c) is k)

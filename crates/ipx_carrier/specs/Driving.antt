@@ -103,14 +103,15 @@ module _ {C K S : Type 0} (hears : C → ℕ → List ℕ → ℕ → C → Type
 module _ {C K S : Type 0} (hears hear_out_of_memory : C → ℕ → List ℕ → ℕ → C → Type 0)
     (gives : C → ℕ → Option Given → C → Type 0) (next_out_of_memory : C → ℕ → C → Type 0)
     (tells : K → ℕ → K → Type 0) (receives : S → ℕ → ℕ → Option (List ℕ) → S → Type 0)
-    (sends : S → Given → S → Type 0) (filtered : S → ℕ) (marked : S → Readiness) (ports size : ℕ)
+    (sends : S → Given → S → Type 0) (fails_to_receive : S → ℕ → ℕ → S → Type 0)
+    (fails_to_send : S → Given → S → Type 0) (filtered : S → ℕ) (marked : S → Readiness) (ports size : ℕ)
     {A : Type 0} (transmissions : Ways A) where
   -- no fault, and nothing more happens; or a fault ends a turn that had begun
   abbrev pub EndsBy : Option RunFault → S → S → K → K → C → C → Type 0
   EndsBy None driver driver_after clock clock_after old new =
       (driver_after ≡ driver) × (clock_after ≡ clock) × (new ≡ old)
   EndsBy (Some f) driver driver_after clock clock_after old new = (filtered driver ≤ filtered driver_after)
-      × BreaksMarkedTurn hears hear_out_of_memory gives next_out_of_memory tells receives sends marked ports size transmissions f driver driver_after clock clock_after old new
+      × BreaksMarkedTurn hears hear_out_of_memory gives next_out_of_memory tells receives sends fails_to_receive fails_to_send marked ports size transmissions f driver driver_after clock clock_after old new
 
   -- at most `most` whole turns, which are counted, and then that end
   abbrev pub BurstsBy : ℕ → Batch → S → S → K → K → C → C → Type 0

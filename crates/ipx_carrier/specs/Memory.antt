@@ -1,5 +1,5 @@
 -- A device in memory: what it received and sent, what waits at its ports, and which of its calls fail.
-use Rattle.std.specs.Prelude.{Vec, ◌≡◌, ℕ, ◌-◌, Bool, true, false, List, [], ◌∷◌, ◌++◌, Option, Some, None, MatchBool, map, option_map, slice_get, slice_set, ◌==◌, if◌then◌else◌}
+use Rattle.std.specs.Prelude.{Vec, ◌≡◌, ℕ, ◌+◌, ◌-◌, Bool, true, false, List, [], ◌∷◌, ◌++◌, Option, Some, None, MatchBool, map, option_map, slice_get, slice_set, ◌==◌, if◌then◌else◌}
 use Rattle.std.specs.Global.{Global}
 use Rattle.ipx_carrier.specs.declared.memory.KeptAnswer.{KeptAnswer}
 use Rattle.ipx_carrier.specs.declared.memory.SentDatagram.{SentDatagram}
@@ -69,3 +69,8 @@ MemoryReceives old port size answer new = Records (record { port = port; bytes =
 -- a datagram was sent, and the same still waits
 abbrev pub MemorySends : MemoryDatagrams → Datagram → MemoryDatagrams → Type 0
 MemorySends old datagram new = Records [] (datagram ∷ []) old new × (waiting_of new ≡ waiting_of old)
+
+-- a call failed, which is counted. Nothing was received or sent, and the same still waits
+abbrev pub MemoryFails : MemoryDatagrams → MemoryDatagrams → Type 0
+MemoryFails old new = (traffic_of new ≡ traffic_of old) × (waiting_of new ≡ waiting_of old)
+    × (new.failures ≡ old.failures + 1) × FailsAsNamed old true new

@@ -1,14 +1,13 @@
 -- Definitions for private functions: the parts of a turn, which ask the ports and send the core's packets.
 use Rattle.std.specs.Prelude.{◌≡◌, ◌<◌, ℕ, Bool, List, [], ◌∷◌, ◌++◌, length, Option, Some, None, is_some}
 use Rattle.ipx_carrier.specs.declared.fault.RunFault.{RunFault}
-use Rattle.ipx_carrier.specs.declared.fault.RunFault.TheVariants.{OutOfMemory}
 use Rattle.ipx_carrier.specs.declared.report.SendCounts.{SendCounts}
 use Rattle.ipx_carrier.specs.Device.{Passes, Reception, TrafficOf}
 use Rattle.ipx_carrier.specs.Waits.{LeavesPort, WaitingDatagrams}
 use Rattle.ipx_carrier.specs.Turns.{FailsAfter, FailsAtPort, GivesAll, GivesEach, Given, HearsAnswer, HearsEach, Ways, copies_of, sent_of}
 use Rattle.ipx_carrier.specs.PortDrivers.{copies_count}
 use Rattle.ipx_carrier.specs.Counts.{heard_in, unmapped_in}
-use Rattle.ipx_carrier.specs.DriverTurns.{AsksEach, SendsEach, SendsUntil}
+use Rattle.ipx_carrier.specs.DriverTurns.{AsksEach, EndsAsking, SendsEach, SendsUntil}
 
 -- ports were asked one after another, each with a buffer of `room` bytes, and gave these
 abbrev pub LeavePorts : ℕ → Option WaitingDatagrams → List Reception → Option WaitingDatagrams
@@ -39,13 +38,15 @@ module _ {C : Type 0} (hears : C → ℕ → List ℕ → ℕ → C → Type 0) 
       × Passes before after rs [] × HearsEach hears now 0 rs old new × (count ≡ heard_in rs)
 
 module _ {C S : Type 0} (hear_out_of_memory : C → ℕ → List ℕ → ℕ → C → Type 0)
-    (receives : S → ℕ → ℕ → Option (List ℕ) → S → Type 0) {A : Type 0} where
+    (receives : S → ℕ → ℕ → Option (List ℕ) → S → Type 0) (fails_to_receive : S → ℕ → ℕ → S → Type 0)
+    {A : Type 0} where
   -- a port was asked, which ended in a fault
   abbrev pub PollFails : ℕ → ℕ → ℕ → Option (TrafficOf A) → Option (TrafficOf A) → RunFault → S → S → C → C
       → Type 0
   PollFails now size port before after fault driver driver_after old new = (last : List Reception)
       × Passes before after last [] × FailsAtPort hear_out_of_memory now port last fault old new
-      × (fault ≡ OutOfMemory → AsksEach receives size last driver driver_after)
+      × (asked : S) × AsksEach receives size last driver asked
+      × EndsAsking fails_to_receive port size fault asked driver_after
 
 module _ {C : Type 0} (hears hear_out_of_memory : C → ℕ → List ℕ → ℕ → C → Type 0) {A : Type 0} where
   -- some of the ports were asked in order, and the last one ended in a fault
@@ -89,10 +90,10 @@ module _ {C S : Type 0} (gives : C → ℕ → Option Given → C → Type 0) (s
       × SendsEach sends packets driver driver_after
 
 module _ {C S : Type 0} (gives : C → ℕ → Option Given → C → Type 0)
-    (next_out_of_memory : C → ℕ → C → Type 0) (sends : S → Given → S → Type 0) {A : Type 0} where
+    (next_out_of_memory : C → ℕ → C → Type 0) (sends fails_to_send : S → Given → S → Type 0) {A : Type 0} where
   -- the core was asked at most `most` times, and the last one ended in a fault
   abbrev pub SendsSome : ℕ → ℕ → Ways A → Option (TrafficOf A) → Option (TrafficOf A) → RunFault → S → S
       → C → C → Type 0
   SendsSome most now transmissions before after fault driver driver_after old new = (packets : List Given)
       × (sent : List A) × FailsAfter gives next_out_of_memory most now transmissions packets sent fault old new
-      × Passes before after [] sent × SendsUntil sends packets fault driver driver_after
+      × Passes before after [] sent × SendsUntil sends fails_to_send packets fault driver driver_after

@@ -3,11 +3,11 @@
 use Rattle.std.specs.Prelude.{ℕ, List}
 use Rattle.std.specs.declared.net.socket_addr.SocketAddr.{SocketAddr}
 
--- a datagram came, from this address; nothing waited; or the system failed. A datagram was sent to this address,
--- or the system refused it
+-- a socket was asked for a datagram, into a buffer of this size: these bytes came from this address; nothing
+-- waited; or the system failed. A datagram was sent to this address, or the system refused it
 pub data SocketEvent : Type 0 where
-  Received : SocketAddr → List ℕ → SocketEvent
-  FoundNothing : SocketEvent
-  ReceiveFailed : SocketEvent
+  Received : SocketAddr → ℕ → List ℕ → SocketEvent
+  FoundNothing : ℕ → SocketEvent
+  ReceiveFailed : ℕ → SocketEvent
   Sent : SocketAddr → List ℕ → SocketEvent
   SendRefused : SocketAddr → List ℕ → SocketEvent

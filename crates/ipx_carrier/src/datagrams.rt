@@ -48,6 +48,13 @@ pub trait Datagrams {
     /// How sending this datagram may leave the device.
     ghost sends: { Self → Datagram → Self → Type 0 };
 
+    /// How failing to receive at a port, into a buffer of this size, may leave the device. It is
+    /// `⊥` if that never fails.
+    ghost fails_to_receive: { Self → ℕ → ℕ → Self → Type 0 };
+
+    /// How failing to send this datagram may leave the device.
+    ghost fails_to_send: { Self → Datagram → Self → Type 0 };
+
     /// How many ports it has.
     fn ports(&self) -> usize
         ensures { result ≡ port_count self.now };
@@ -67,6 +74,8 @@ pub trait Datagrams {
         ensures sends { OnOk result (sends self.old
             (record { port = port; to = to; bytes = bytes.now }) self.new) }
         ensures refused { OnErr result (traffic self.new ≡ traffic self.old) }
+        ensures fails_to_send { OnErr result (fails_to_send self.old
+            (record { port = port; to = to; bytes = bytes.now }) self.new) }
         ensures waiting { waiting self.new ≡ waiting self.old }
         ensures fails { fails self.old (is_err result) self.new }
         ensures failures { failed self.new ≡ device_failures result (failed self.old) }
@@ -90,6 +99,8 @@ pub trait Datagrams {
         ensures leaves { IfOk result (λ count. LeavesPort (length room.old) port
             (waiting self.old) (received_in room.new count) (waiting self.new)) }
         ensures refused { OnErr result (traffic self.new ≡ traffic self.old) }
+        ensures fails_to_receive { OnErr result
+            (fails_to_receive self.old port (length room.old) self.new) }
         ensures waiting { OnErr result (waiting self.new ≡ waiting self.old) }
         ensures fails { fails self.old (is_err result) self.new }
         ensures failures { failed self.new ≡ device_failures result (failed self.old) }

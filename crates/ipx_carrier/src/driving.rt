@@ -87,7 +87,8 @@ fn run_once_lent<C: Core, S: PortDriver, K: Clock>(
     ensures marks_fault { CanBeginBy (C.port_count core.old) (S.port_count driver.old)
         (S.failed driver.old) → IfErr result (λ f.
         BreaksMarkedTurn C.hears C.hear_out_of_memory C.gives C.next_out_of_memory K.tells
-        S.receives S.sends S.marked (C.port_count core.old) (length room.old)
+        S.receives S.sends S.fails_to_receive S.fails_to_send S.marked (C.port_count core.old)
+        (length room.old)
         (S.transmissions driver.old) f driver.old driver.new clock.old clock.new
         core.old core.new) }
     ensures kept { S.kept driver.new ≡ S.kept driver.old }
@@ -147,7 +148,7 @@ pub fn run_once_over_ports<C: Core, S: PortDriver, K: Clock>(
     ensures marks_fault { CanBeginBy (C.port_count core.old) (S.port_count driver.old)
         (S.failed driver.old) → IfErr result (λ f.
         BreaksMarkedTurn C.hears C.hear_out_of_memory C.gives C.next_out_of_memory K.tells
-        S.receives S.sends S.marked (C.port_count core.old) 1536
+        S.receives S.sends S.fails_to_receive S.fails_to_send S.marked (C.port_count core.old) 1536
         (S.transmissions driver.old) f driver.old driver.new clock.old clock.new
         core.old core.new) }
     ensures kept { S.kept driver.new ≡ S.kept driver.old }
@@ -177,7 +178,7 @@ pub fn run_batch<C: Core, S: PortDriverFilters, K: Clock>(
     ensures turns { CanBeginBy (C.port_count core.old) (S.port_count driver.old)
         (S.failed driver.old)
         → BurstsBy C.hears C.hear_out_of_memory C.gives C.next_out_of_memory K.tells S.receives S.sends
-        S.filtered S.marked (C.port_count core.old) 1536 (S.transmissions driver.old) most result
+        S.fails_to_receive S.fails_to_send S.filtered S.marked (C.port_count core.old) 1536 (S.transmissions driver.old) most result
         driver.old driver.new clock.old clock.new core.old core.new }
     // If none can begin, nothing happens.
     ensures refused { (CanBeginBy (C.port_count core.old) (S.port_count driver.old)

@@ -25,7 +25,8 @@ fn hear_port<C: Core, S: PortDriver>(
     requires countable { S.failed driver.old + 1 < 2 ^ 64 }
     ensures heard { IfOk result (λ heard. AsksPort C.hears S.receives now (length room.old) port
         (S.traffic driver.old) (S.traffic driver.new) driver.old driver.new core.old core.new heard) }
-    ensures fault { IfErr result (λ f. PollFails C.hear_out_of_memory S.receives now (length room.old) port
+    ensures fault { IfErr result (λ f. PollFails C.hear_out_of_memory S.receives S.fails_to_receive
+        now (length room.old) port
         (S.traffic driver.old) (S.traffic driver.new) f driver.old driver.new core.old core.new) }
     ensures waiting { TakesFromDevice (length room.old)
         (S.traffic driver.old) (S.traffic driver.new)
@@ -78,7 +79,7 @@ pub fn hear_ports<C: Core, S: PortDriver>(
     ensures marks { IfOk result (λ count. AsksMarkedPorts C.hears S.receives S.marked now
         (length room.old) (C.port_count core.old) driver.old driver.new core.old core.new count) }
     ensures marks_fault { IfErr result (λ f.
-        AsksSomeMarkedPorts C.hears C.hear_out_of_memory S.receives S.marked now
+        AsksSomeMarkedPorts C.hears C.hear_out_of_memory S.receives S.fails_to_receive S.marked now
         (length room.old) (C.port_count core.old) f driver.old driver.new core.old core.new) }
     ensures kept { S.kept driver.new ≡ S.kept driver.old }
 {

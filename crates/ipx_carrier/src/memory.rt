@@ -188,7 +188,7 @@ fn take_waiting(
 
 impl Datagrams for MemoryDatagrams {
     ghost use Rattle.std.specs.Prelude.{Some, length};
-    ghost use Rattle.ipx_carrier.specs.Memory.{FailsAsNamed, MemoryReceives, MemorySends, traffic_of, waiting_of};
+    ghost use Rattle.ipx_carrier.specs.Memory.{FailsAsNamed, MemoryFails, MemoryReceives, MemorySends, traffic_of, waiting_of};
 
     ghost port_count = { λ m. length m.waiting.items };
 
@@ -207,6 +207,10 @@ impl Datagrams for MemoryDatagrams {
     ghost receives = { MemoryReceives };
 
     ghost sends = { MemorySends };
+
+    ghost fails_to_receive = { λ m port size n. MemoryFails m n };
+
+    ghost fails_to_send = { λ m datagram n. MemoryFails m n };
 
     fn ports(&self) -> usize {
         self.waiting.len()

@@ -30,7 +30,7 @@ impl<D: Datagrams + Drop> OwnedRfc1234Ports<D> {
 impl<D: Datagrams + Drop> PortDriver for OwnedRfc1234Ports<D> {
     ghost use Rattle.std.specs.Prelude.{◌≡◌, List};
     ghost use Rattle.ipx_carrier.specs.Device.{Access, Datagram};
-    ghost use Rattle.ipx_carrier.specs.DriverTurns.{SendsEach};
+    ghost use Rattle.ipx_carrier.specs.DriverTurns.{SendsEach, SendsSomeOf};
     ghost use Rattle.ipx_carrier.specs.Turns.{Peers, by_ip, copies_of, peers_of};
 
     ghost Copy = { Datagram };
@@ -61,6 +61,13 @@ impl<D: Datagrams + Drop> PortDriver for OwnedRfc1234Ports<D> {
 
     // The device sends each copy, in order.
     ghost sends = { λ s packet t. (t.peers ≡ s.peers) × SendsEach D.sends
+        (copies_of (by_ip (peers_of s.peers.items)) packet) s.device t.device };
+
+    ghost fails_to_receive = { λ s port size t. (t.peers ≡ s.peers)
+        × D.fails_to_receive s.device port size t.device };
+
+    // The device sends the copies before one that it fails to send.
+    ghost fails_to_send = { λ s packet t. (t.peers ≡ s.peers) × SendsSomeOf D.sends D.fails_to_send
         (copies_of (by_ip (peers_of s.peers.items)) packet) s.device t.device };
 
     fn ports(&self) -> usize {

@@ -63,23 +63,27 @@ impl PlacedSocket {
     /// Receives a datagram into the room, and says its size and who sent it. What does not fit is
     /// lost. `None` means that nothing waits.
     pub fn receive(&mut self, room: &mut [u8]) -> io::Result<Option<(usize, SocketAddr)>>
-        ensures came { IfOk result (λ came. IfSome came (λ c.
-            self.new ≡ received_from self.old c.1 (take c.0 room.new))) }
+        ensures came { IfOk result (λ came. IfSome came (λ c. self.new
+            ≡ received_from self.old c.1 (length room.old) (take c.0 room.new))) }
         ensures within { IfOk result (λ came. IfSome came (λ c. c.0 ≤ length room.old)) }
-        ensures nothing { result ≡ Ok None → self.new ≡ found_nothing self.old }
-        ensures failed { OnErr result (self.new ≡ failed_to_receive 1 self.old) }
+        ensures nothing { result ≡ Ok None
+            → self.new ≡ found_nothing self.old (length room.old) }
+        ensures failed { OnErr result (self.new
+            ≡ failed_to_receive 1 (length room.old) self.old) }
+        ensures room { length room.new ≡ length room.old }
     {
+        let buffer = room.len();
         match self.socket.recv_from(room) {
             Ok((size, from)) => {
-                self.events.note_received(&from, &room[..size]);
+                self.events.note_received(&from, &buffer, &room[..size]);
                 Ok(Some((size, from)))
             }
             Err(error) if error.kind() == ErrorKind::WouldBlock => {
-                self.events.note_nothing();
+                self.events.note_nothing(&buffer);
                 Ok(None)
             }
             Err(error) => {
-                self.events.note_failed();
+                self.events.note_failed(&buffer);
                 Err(error)
             }
         }

@@ -67,6 +67,13 @@ pub trait PortDriver {
     /// How sending this packet may leave the driver, or finding that its node has no address.
     ghost sends: { Self → Given → Self → Type 0 };
 
+    /// How failing to receive at a port, into a buffer of this size, may leave the driver. It is
+    /// `⊥` if that never fails.
+    ghost fails_to_receive: { Self → ℕ → ℕ → Self → Type 0 };
+
+    /// How failing to send this packet may leave the driver.
+    ghost fails_to_send: { Self → Given → Self → Type 0 };
+
     /// How many ports there are.
     fn ports(&self) -> usize
         ensures { result ≡ port_count self.now };
@@ -92,6 +99,8 @@ pub trait PortDriver {
         ensures refused { OnErr result (SendsFrontOf (copies_of (transmissions self.old)
             (record { port = port; node = node; bytes = packet.now }))
             (traffic self.old) (traffic self.new)) }
+        ensures fails_to_send { OnErr result (fails_to_send self.old
+            (record { port = port; node = node; bytes = packet.now }) self.new) }
         ensures waiting { waiting self.new ≡ waiting self.old }
         ensures failures { failed self.new ≡ device_failures result (failed self.old) }
         ensures ports { port_count self.new ≡ port_count self.old }
@@ -116,6 +125,8 @@ pub trait PortDriver {
         ensures leaves { IfOk result (λ count. LeavesPort (length room.old) port
             (waiting self.old) (received_in room.new count) (waiting self.new)) }
         ensures refused { OnErr result (traffic self.new ≡ traffic self.old) }
+        ensures fails_to_receive { OnErr result
+            (fails_to_receive self.old port (length room.old) self.new) }
         ensures waiting { OnErr result (waiting self.new ≡ waiting self.old) }
         ensures failures { failed self.new ≡ device_failures result (failed self.old) }
         ensures ports { port_count self.new ≡ port_count self.old }

@@ -3,7 +3,7 @@
 
 ghost use Rattle.std.specs.Prelude.{◌≡◌, ◌<◌, ◌≤◌, ◌+◌, ◌^◌, [], OnErr, OnOk, map, slice_get, unwrap_or};
 ghost use Rattle.ipx_carrier.specs.Device.{Passes};
-ghost use Rattle.ipx_carrier.specs.DriverTurns.{SendsEach};
+ghost use Rattle.ipx_carrier.specs.DriverTurns.{SendsEach, SendsSomeOf};
 ghost use Rattle.ipx_carrier.specs.Readiness.{MarksStay};
 ghost use Rattle.ipx_carrier.specs.RunFaultNumbers.{device_failures};
 ghost use Rattle.ipx_carrier.specs.PortDrivers.{SendsFrontOf};
@@ -43,6 +43,9 @@ fn send_to_each<D: Datagrams>(
     ensures fault { OnErr result (SendsFrontOf
         (map (λ to. record { port = port; to = to; bytes = bytes.now }) peers.now)
         (D.traffic datagrams.old) (D.traffic datagrams.new)) }
+    ensures fails { OnErr result (SendsSomeOf D.sends D.fails_to_send
+        (map (λ to. record { port = port; to = to; bytes = bytes.now }) peers.now)
+        datagrams.old datagrams.new) }
     ensures waiting { D.waiting datagrams.new ≡ D.waiting datagrams.old }
     ensures failures { D.failed datagrams.new ≡ device_failures result (D.failed datagrams.old) }
     ensures ports { D.port_count datagrams.new ≡ D.port_count datagrams.old }
@@ -98,6 +101,13 @@ impl<'a, D: Datagrams> PortDriver for Rfc1234Ports<'a, D> {
 
     // The device sends each copy, in order.
     ghost sends = { λ s packet t. (t.peers ≡ s.peers) × SendsEach D.sends
+        (copies_of (by_ip (peers_of s.peers.now)) packet) s.datagrams.now t.datagrams.now };
+
+    ghost fails_to_receive = { λ s port size t. (t.peers ≡ s.peers)
+        × D.fails_to_receive s.datagrams.now port size t.datagrams.now };
+
+    // The device sends the copies before one that it fails to send.
+    ghost fails_to_send = { λ s packet t. (t.peers ≡ s.peers) × SendsSomeOf D.sends D.fails_to_send
         (copies_of (by_ip (peers_of s.peers.now)) packet) s.datagrams.now t.datagrams.now };
 
     fn ports(&self) -> usize {

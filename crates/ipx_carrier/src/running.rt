@@ -77,7 +77,8 @@ pub fn run_once_in<C: Core, S: PortDriver, K: Clock>(
         core.old core.new report) }
     ensures marks_fault { IfErr result (λ f.
         BreaksMarkedTurn C.hears C.hear_out_of_memory C.gives C.next_out_of_memory K.tells
-        S.receives S.sends S.marked (C.port_count core.old) (length room.old)
+        S.receives S.sends S.fails_to_receive S.fails_to_send S.marked (C.port_count core.old)
+        (length room.old)
         (S.transmissions driver.old) f driver.old driver.new clock.old clock.new
         core.old core.new) }
     ensures kept { S.kept driver.new ≡ S.kept driver.old }

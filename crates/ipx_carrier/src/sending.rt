@@ -27,7 +27,7 @@ fn send_next<C: Core, S: PortDriver>(
     ensures sent { IfOk result (λ sent. SendsNext C.gives S.sends now (S.transmissions driver.old)
         (S.traffic driver.old) (S.traffic driver.new) driver.old driver.new
         core.old core.new (copies_view sent)) }
-    ensures fault { IfErr result (λ f. SendsSome C.gives C.next_out_of_memory S.sends 1 now
+    ensures fault { IfErr result (λ f. SendsSome C.gives C.next_out_of_memory S.sends S.fails_to_send 1 now
         (S.transmissions driver.old) (S.traffic driver.old) (S.traffic driver.new) f
         driver.old driver.new core.old core.new) }
     ensures waiting { S.waiting driver.new ≡ S.waiting driver.old }
@@ -83,7 +83,7 @@ pub fn send_all<C: Core, S: PortDriver>(
         core.old core.new totals) }
     ensures few { IfOk result (λ totals. totals.sent ≤ 64 * 2 ^ 64) }
     ensures few_unmapped { IfOk result (λ totals. totals.unmapped ≤ 64) }
-    ensures fault { IfErr result (λ f. SendsSome C.gives C.next_out_of_memory S.sends 64 now
+    ensures fault { IfErr result (λ f. SendsSome C.gives C.next_out_of_memory S.sends S.fails_to_send 64 now
         (S.transmissions driver.old) (S.traffic driver.old) (S.traffic driver.new) f
         driver.old driver.new core.old core.new) }
     ensures waiting { S.waiting driver.new ≡ S.waiting driver.old }

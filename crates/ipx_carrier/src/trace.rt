@@ -26,19 +26,20 @@ impl Trace {
         Trace {}
     }
 
-    /// Adds that a datagram came.
-    pub(crate) fn note_received(&mut self, _from: &SocketAddr, _bytes: &[u8])
-        ensures { self.new.items ≡ self.old.items ++ Received _from.now _bytes.now ∷ [] }
+    /// Adds that a datagram came, as the socket was asked into a buffer of this size.
+    pub(crate) fn note_received(&mut self, _from: &SocketAddr, _size: &usize, _bytes: &[u8])
+        ensures { self.new.items
+            ≡ self.old.items ++ Received _from.now _size.now _bytes.now ∷ [] }
     {}
 
-    /// Adds that nothing waited.
-    pub(crate) fn note_nothing(&mut self)
-        ensures { self.new.items ≡ self.old.items ++ FoundNothing ∷ [] }
+    /// Adds that nothing waited, as the socket was asked into a buffer of this size.
+    pub(crate) fn note_nothing(&mut self, _size: &usize)
+        ensures { self.new.items ≡ self.old.items ++ FoundNothing _size.now ∷ [] }
     {}
 
-    /// Adds that the system failed to receive.
-    pub(crate) fn note_failed(&mut self)
-        ensures { self.new.items ≡ self.old.items ++ ReceiveFailed ∷ [] }
+    /// Adds that the system failed to receive into a buffer of this size.
+    pub(crate) fn note_failed(&mut self, _size: &usize)
+        ensures { self.new.items ≡ self.old.items ++ ReceiveFailed _size.now ∷ [] }
     {}
 
     /// Adds that a datagram was sent.

@@ -2,8 +2,8 @@
 
 ghost use Rattle.ipx_carrier.specs.RunFaultNumbers.{device_failures};
 ghost use Rattle.ipx_carrier.specs.Device.{received_in};
-ghost use Rattle.ipx_carrier.specs.Traces.{AsksOnce, GivesOnce, RefusesTo, SendsTo, v4_at};
-ghost use Rattle.std.specs.Prelude.{◌≡◌, ◌<◌, ◌≤◌, ◌+◌, ◌^◌, IfOk, IfSome, OnErr, OnOk, length, map};
+ghost use Rattle.ipx_carrier.specs.Traces.{FailsOnce, GivesOnce, RefusesTo, SendsTo, socket_events, v4_at};
+ghost use Rattle.std.specs.Prelude.{◌≡◌, ◌<◌, ◌≤◌, ◌+◌, ◌^◌, [], IfOk, IfSome, OnErr, OnOk, length, map};
 
 use crate::datagrams::Datagrams;
 use crate::fault::DeviceFault;
@@ -43,6 +43,10 @@ impl UdpDatagrams {
         ensures ports { IfOk result (λ d. length d.sockets.items ≡ length addresses.now) }
         ensures at { IfOk result (λ d. map (λ s. s.at) d.sockets.items
             ≡ map (λ ip. v4_at ip port) addresses.now) }
+        // Datagrams are sent to the UDP port of the call, and no socket was asked anything yet.
+        ensures port { IfOk result (λ d. d.port ≡ port) }
+        ensures fresh { IfOk result (λ d. socket_events d.sockets.items
+            ≡ map (λ ip. []) addresses.now) }
         ensures failures { IfOk result (λ d. d.failures ≡ 0) }
     {
         let mut sockets = Vec::new(alloc);
@@ -63,8 +67,8 @@ impl UdpDatagrams {
 }
 
 impl Datagrams for UdpDatagrams {
-    ghost use Rattle.std.specs.Prelude.{None, [], length, ◌≡◌};
-    ghost use Rattle.ipx_carrier.specs.Traces.{GivesOnce, SendsTo, v4_at};
+    ghost use Rattle.std.specs.Prelude.{None, [], length, ◌≡◌, ◌+◌};
+    ghost use Rattle.ipx_carrier.specs.Traces.{FailsOnce, GivesOnce, RefusesTo, SendsTo, v4_at};
 
     ghost port_count = { λ d. length d.sockets.items };
 
@@ -86,6 +90,13 @@ impl Datagrams for UdpDatagrams {
 
     ghost sends = { λ d datagram e. (e.port ≡ d.port) × (e.failures ≡ d.failures)
         × SendsTo datagram.port (v4_at datagram.to d.port) datagram.bytes
+        d.sockets.items e.sockets.items };
+
+    ghost fails_to_receive = { λ d port size e. (e.port ≡ d.port) × (e.failures ≡ d.failures + 1)
+        × FailsOnce port size d.sockets.items e.sockets.items };
+
+    ghost fails_to_send = { λ d datagram e. (e.port ≡ d.port) × (e.failures ≡ d.failures + 1)
+        × RefusesTo datagram.port (v4_at datagram.to d.port) datagram.bytes
         d.sockets.items e.sockets.items };
 
     fn ports(&self) -> usize {
@@ -118,10 +129,11 @@ impl Datagrams for UdpDatagrams {
     fn receive(&mut self, port: usize, room: &mut [u8]) -> Result<Option<usize>, DeviceFault>
         requires there { port < length self.old.sockets.items }
         requires countable { self.old.failures + 1 < 2 ^ 64 }
-        // The port's socket was asked once, and this came of it.
-        ensures asks { AsksOnce port result room.new self.old.sockets.items self.new.sockets.items }
+        // The port's socket was asked once, into the whole buffer, and this came of it.
         ensures gives { IfOk result (λ count. GivesOnce port (length room.old)
             (received_in room.new count) self.old.sockets.items self.new.sockets.items) }
+        ensures fails { OnErr result (FailsOnce port (length room.old)
+            self.old.sockets.items self.new.sockets.items) }
         ensures within { IfOk result (λ count. IfSome count (λ n. n ≤ length room.old)) }
         ensures failures { self.new.failures ≡ device_failures result self.old.failures }
         ensures ports { length self.new.sockets.items ≡ length self.old.sockets.items }

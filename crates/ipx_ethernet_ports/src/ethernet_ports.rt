@@ -180,6 +180,10 @@ impl<D: EndSockets + Drop> PortDriver for EthernetPorts<D> {
 
     ghost sends = { SendsByEthernet D.ends_of D.traffic D.failed };
 
+    ghost fails_to_receive = { λ w port size v. ⊥ };
+
+    ghost fails_to_send = { λ w packet v. ⊥ };
+
     fn ports(&self) -> usize {
         self.switches.len().min(self.sockets.ports())
     }

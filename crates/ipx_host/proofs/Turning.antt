@@ -25,13 +25,14 @@ peers_sent : (ps : List Given) (x y : HostPort) → SendsEach SendsAtPort ps x y
 peers_sent [] x y h = cc
 peers_sent (p ∷ ps) x y h = peers_sent ps h.0 y h.2 ∙ h.1.0
 
-module _ {R : Type 0} (marks : HostPort → Readiness) (before after : Around R) (old new : PacedHostCore) where
+module _ {R : Type 0} (marks : HostPort → Readiness) (fails_to_receive : HostPort → ℕ → ℕ → HostPort → Type 0)
+    (fails_to_send : HostPort → Given → HostPort → Type 0) (before after : Around R) (old new : PacedHostCore) where
   -- a turn over the port of a host, by its result
   abbrev pub Took : HostPort → Report → Type 0
   Took there report = TakesMarkedTurn hears gives NeverGoesBack ReceivesAtPort SendsAtPort marks 1 1536 (by_ip (peers_of there.peers.items)) there after.port before.clock after.clock old new report
 
   abbrev pub Broke : HostPort → RunFault → Type 0
-  Broke there f = BreaksMarkedTurn hears hear_out_of_memory gives next_out_of_memory NeverGoesBack ReceivesAtPort SendsAtPort marks 1 1536 (by_ip (peers_of there.peers.items)) f there after.port before.clock after.clock old new
+  Broke there f = BreaksMarkedTurn hears hear_out_of_memory gives next_out_of_memory NeverGoesBack ReceivesAtPort SendsAtPort fails_to_receive fails_to_send marks 1 1536 (by_ip (peers_of there.peers.items)) f there after.port before.clock after.clock old new
 
   -- it never fails: it is complete, or it ran out of memory, which is counted
   pub took : (there : HostPort) (ran : Result Report RunFault) (turn : Activity) (n m : ℕ)

@@ -258,6 +258,10 @@ impl<D: PlaceSockets + Drop> PortDriver for Servers<D> {
 
     ghost sends = { SendsByServers D.traffic D.failed };
 
+    ghost fails_to_receive = { λ l port size m. ⊥ };
+
+    ghost fails_to_send = { λ l packet m. ⊥ };
+
     fn ports(&self) -> usize {
         self.servers.len().min(self.sockets.ports())
     }

@@ -3,7 +3,7 @@ use Rattle.std.proofs.Common.{◌≡◌, ℕ, List, [], ◌∷◌, Option, Some,
 use Rattle.std.specs.Prelude.{IfOk, OnErr, OnOk, slice_get}
 use Rattle.ipx_carrier.specs.declared.datagrams.Datagrams as OfDevice
 use Rattle.ipx_carrier.specs.Device.{Passes, received_in}
-use Rattle.ipx_carrier.specs.DriverTurns.{SendsEach}
+use Rattle.ipx_carrier.specs.DriverTurns.{SendsEach, SendsSomeOf}
 use Rattle.ipx_carrier.specs.PortDrivers.{SendsFrontOf}
 use Rattle.ipx_carrier.specs.Turns.{Given}
 use Rattle.ipx_ethernet_ports.specs.declared.end_sockets.EndSockets as OfSockets
@@ -13,7 +13,7 @@ use Rattle.ipx_ipxnet_ports.specs.ServerCalls.{ReceivesByServers, SendsByServers
 use Rattle.ipx_site.specs.declared.router_ports.PortIndex.{PortIndex}
 use Rattle.ipx_site.specs.declared.router_ports.PortIndex.TheVariants.{Datagrams, Ethernet, IpxnetServer}
 use Rattle.ipx_site.specs.declared.router_ports.RouterPorts.{RouterPorts}
-use Rattle.ipx_site.specs.PortCalls.{FailsToReceive, FailsToSend, ReceivesAtPort, ReceivesByKind, SendsByKind, SendsByPort, StayIndexed, datagrams_of}
+use Rattle.ipx_site.specs.PortCalls.{FailsToReceive, FailsToReceiveAt, FailsToSend, FailsToSendBy, ReceivesAtPort, ReceivesByKind, SendsByKind, SendsByPort, StayIndexed, datagrams_of}
 use Rattle.ipx_site.specs.RouterPorts.{given_at}
 
 module _ {D E L : Type 0} {gd : OfDevice.Ghosts D} {ge : OfSockets.Ghosts E} {gl : OfPlaces.Ghosts L} (old new : RouterPorts D E L gd ge gl) (k : ℕ) (stay : StayIndexed old new) where
@@ -65,16 +65,20 @@ module _ {D E L : Type 0} {gd : OfDevice.Ghosts D} {ge : OfSockets.Ghosts E} {gl
     sends_servers (Err f) there d e h = tt
 
     pub fails_to_send : {T F : Type 0} (r : Result T F) → slice_get old.port_indices.items p.port ≡ Some (Datagrams k) → new.ethernet ≡ old.ethernet → new.servers ≡ old.servers
+        → OnErr r ((new.datagrams.peers ≡ old.datagrams.peers) × SendsSomeOf gd.sends gd.fails_to_send (datagrams_of old k p) old.datagrams.device new.datagrams.device)
         → OnErr r (SendsFrontOf (datagrams_of old k p) (gd.traffic old.datagrams.device) (gd.traffic new.datagrams.device))
-        → OnErr r (FailsToSend (slice_get old.port_indices.items p.port) old p new)
-    fails_to_send (Ok t) there e s h = tt
-    fails_to_send (Err f) there e s h = subst (λ (o : Option PortIndex). FailsToSend o old p new) (sym there) (h, e, s)
+        → OnErr r (FailsToSendBy old p new)
+    fails_to_send (Ok t) there e s h front = tt
+    fails_to_send (Err f) there e s h front =
+        subst (λ (o : Option PortIndex). FailsToSend o old p new) (sym there) (h.1, h.0, front, e, s, stay)
 
-  pub fails_to_receive : {T F : Type 0} (port : ℕ) (r : Result T F) → slice_get old.port_indices.items port ≡ Some (Datagrams k) → new.ethernet ≡ old.ethernet → new.servers ≡ old.servers
+  pub fails_to_receive : {T F : Type 0} (port size : ℕ) (r : Result T F) → slice_get old.port_indices.items port ≡ Some (Datagrams k) → new.ethernet ≡ old.ethernet → new.servers ≡ old.servers
+      → OnErr r ((new.datagrams.peers ≡ old.datagrams.peers) × gd.fails_to_receive old.datagrams.device k size new.datagrams.device)
       → OnErr r (gd.traffic new.datagrams.device ≡ gd.traffic old.datagrams.device)
-      → OnErr r (FailsToReceive (slice_get old.port_indices.items port) old new)
-  fails_to_receive port (Ok t) there e s h = tt
-  fails_to_receive port (Err f) there e s h = subst (λ (o : Option PortIndex). FailsToReceive o old new) (sym there) (h, e, s)
+      → OnErr r (FailsToReceiveAt old port size new)
+  fails_to_receive port size (Ok t) there e s h same = tt
+  fails_to_receive port size (Err f) there e s h same =
+      subst (λ (o : Option PortIndex). FailsToReceive o old size new) (sym there) (h.1, h.0, same, e, s, stay)
 
 -- a call that never fails
 pub never_fails : {T F : Type 0} (P : Type 0) (r : Result T F) → OnErr r ⊥ → OnErr r P

@@ -16,7 +16,7 @@ use Rattle.ipx_site.specs.IdleTime.{Deadlines, EventCounts, IsDue, deadlines}
 use Rattle.ipx_sockets.specs.Moments.{IsTimeUntilDue}
 use Rattle.ipx_site.specs.declared.warnings.Warnings.{Warnings}
 use Rattle.ipx_site.specs.SiteCore.{SiteCore, SiteGives, SiteHears, SiteHearOutOfMemory, SiteNextOutOfMemory}
-use Rattle.ipx_site.specs.PortCalls.{ReceivesAtPort, SendsByPort}
+use Rattle.ipx_site.specs.PortCalls.{FailsToReceiveAt, FailsToSendBy, ReceivesAtPort, SendsByPort}
 use Rattle.ipx_site.specs.PortsView.{SitePortsRun, filtered_in_ports, ways_in}
 use Rattle.ipx_site.specs.RouterPings.{BeginsTurns}
 use Rattle.ipx_site.specs.RouterPorts.{PortCopy}
@@ -32,12 +32,12 @@ same_ports now times times_after old mid (inr h) = ap (λ (v : SiteCore). length
 module _ {K : Type 0} {gd : OfDevice.Ghosts (SourceFilter UdpSockets)} {ge : OfSockets.Ghosts EthernetSockets} {gl : OfPlaces.Ghosts ServerSockets} (stops tells : K → ℕ → K → Type 0) where
   pub is_round : (ports begun ports_after : SitePortsRun gd ge gl) (clock told tick clock_after : K) (now moment times times_after : ℕ) (old mid new : SiteCore) (b : Batch)
       → stops clock now told → tick ≡ told → moment ≡ now → AsksAgain now times times_after old mid → BeginsTurns now ports begun → ways_in begun ≡ ways_in ports
-      → BurstsBy SiteHears SiteHearOutOfMemory SiteGives SiteNextOutOfMemory tells ReceivesAtPort SendsByPort filtered_in_ports marks_of_ports (length mid.core.core.core.router.ports) 1536 (ways_in begun) 32 b begun ports_after tick clock_after mid new
+      → BurstsBy SiteHears SiteHearOutOfMemory SiteGives SiteNextOutOfMemory tells ReceivesAtPort SendsByPort FailsToReceiveAt FailsToSendBy filtered_in_ports marks_of_ports (length mid.core.core.core.router.ports) 1536 (ways_in begun) 32 b begun ports_after tick clock_after mid new
       → IsRound clock clock_after stops tells ports ports_after times times_after old new moment b
   is_round ports begun ports_after clock told tick clock_after now moment times times_after old mid new b h e m asks begins same bursts =
-      let at = subst (λ (n : ℕ). BurstsBy SiteHears SiteHearOutOfMemory SiteGives SiteNextOutOfMemory tells ReceivesAtPort SendsByPort filtered_in_ports marks_of_ports n 1536 (ways_in begun) 32 b begun ports_after tick clock_after mid new)
+      let at = subst (λ (n : ℕ). BurstsBy SiteHears SiteHearOutOfMemory SiteGives SiteNextOutOfMemory tells ReceivesAtPort SendsByPort FailsToReceiveAt FailsToSendBy filtered_in_ports marks_of_ports n 1536 (ways_in begun) 32 b begun ports_after tick clock_after mid new)
       (same_ports now times times_after old mid asks) bursts in
-      let by = subst (λ (it : Ways PortCopy). BurstsBy SiteHears SiteHearOutOfMemory SiteGives SiteNextOutOfMemory tells ReceivesAtPort SendsByPort filtered_in_ports marks_of_ports (length old.core.core.core.router.ports) 1536 it 32 b begun ports_after tick clock_after mid new) same at in
+      let by = subst (λ (it : Ways PortCopy). BurstsBy SiteHears SiteHearOutOfMemory SiteGives SiteNextOutOfMemory tells ReceivesAtPort SendsByPort FailsToReceiveAt FailsToSendBy filtered_in_ports marks_of_ports (length old.core.core.core.router.ports) 1536 it 32 b begun ports_after tick clock_after mid new) same at in
       (now, tick, mid, begun, subst (λ it. stops clock now it) (sym e) h, m, asks, begins, by)
 
   -- what holds of a round and the wait after it does not depend on what stays the same after them

@@ -3,7 +3,7 @@
 use Rattle.std.specs.Prelude.{◌≡◌, ℕ, List, [], ◌∷◌, Option, Some, None, slice_get}
 use Rattle.ipx_carrier.specs.declared.datagrams.Datagrams as OfDevice
 use Rattle.ipx_carrier.specs.Device.{Datagram, Passes}
-use Rattle.ipx_carrier.specs.DriverTurns.{SendsEach}
+use Rattle.ipx_carrier.specs.DriverTurns.{SendsEach, SendsSomeOf}
 use Rattle.ipx_carrier.specs.PortDrivers.{SendsFrontOf}
 use Rattle.ipx_carrier.specs.Turns.{Given, by_ip, copies_of, peers_of}
 use Rattle.ipx_ethernet_ports.specs.declared.end_sockets.EndSockets as OfSockets
@@ -62,19 +62,30 @@ module _ {D E L : Type 0} {gd : OfDevice.Ghosts D} {ge : OfSockets.Ghosts E} {gl
   abbrev pub SendsByPort : RouterPorts D E L gd ge gl → Given → RouterPorts D E L gd ge gl → Type 0
   SendsByPort old p new = SendsByKind (slice_get old.port_indices.items p.port) old p new
 
-  -- the device failed at a port with this index: what it received or sent before the failure is as its traffic
-  -- says. The ports of the other kinds never fail
-  abbrev pub FailsToReceive : Option PortIndex → RouterPorts D E L gd ge gl → RouterPorts D E L gd ge gl → Type 0
-  FailsToReceive None old new = ⊥
-  FailsToReceive (Some (Datagrams k)) old new = (gd.traffic new.datagrams.device ≡ gd.traffic old.datagrams.device)
-      × (new.ethernet ≡ old.ethernet) × (new.servers ≡ old.servers)
-  FailsToReceive (Some (Ethernet k)) old new = ⊥
-  FailsToReceive (Some (IpxnetServer k)) old new = ⊥
+  -- the device failed to receive at a port with this index, into a buffer of this size; or it failed to send a
+  -- datagram of a packet, after those before it. Nothing else changed. The ports of the other kinds never fail
+  abbrev pub FailsToReceive : Option PortIndex → RouterPorts D E L gd ge gl → ℕ → RouterPorts D E L gd ge gl → Type 0
+  FailsToReceive None old size new = ⊥
+  FailsToReceive (Some (Datagrams k)) old size new =
+      gd.fails_to_receive old.datagrams.device k size new.datagrams.device × (new.datagrams.peers ≡ old.datagrams.peers)
+      × (gd.traffic new.datagrams.device ≡ gd.traffic old.datagrams.device)
+      × (new.ethernet ≡ old.ethernet) × (new.servers ≡ old.servers) × StayIndexed old new
+  FailsToReceive (Some (Ethernet k)) old size new = ⊥
+  FailsToReceive (Some (IpxnetServer k)) old size new = ⊥
 
   abbrev pub FailsToSend : Option PortIndex → RouterPorts D E L gd ge gl → Given → RouterPorts D E L gd ge gl → Type 0
   FailsToSend None old p new = ⊥
   FailsToSend (Some (Datagrams k)) old p new =
-      SendsFrontOf (datagrams_of old k p) (gd.traffic old.datagrams.device) (gd.traffic new.datagrams.device)
-      × (new.ethernet ≡ old.ethernet) × (new.servers ≡ old.servers)
+      SendsSomeOf gd.sends gd.fails_to_send (datagrams_of old k p) old.datagrams.device new.datagrams.device
+      × (new.datagrams.peers ≡ old.datagrams.peers)
+      × SendsFrontOf (datagrams_of old k p) (gd.traffic old.datagrams.device) (gd.traffic new.datagrams.device)
+      × (new.ethernet ≡ old.ethernet) × (new.servers ≡ old.servers) × StayIndexed old new
   FailsToSend (Some (Ethernet k)) old p new = ⊥
   FailsToSend (Some (IpxnetServer k)) old p new = ⊥
+
+  -- the same by the port's number
+  abbrev pub FailsToReceiveAt : RouterPorts D E L gd ge gl → ℕ → ℕ → RouterPorts D E L gd ge gl → Type 0
+  FailsToReceiveAt old port size new = FailsToReceive (slice_get old.port_indices.items port) old size new
+
+  abbrev pub FailsToSendBy : RouterPorts D E L gd ge gl → Given → RouterPorts D E L gd ge gl → Type 0
+  FailsToSendBy old p new = FailsToSend (slice_get old.port_indices.items p.port) old p new

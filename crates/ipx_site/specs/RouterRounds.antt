@@ -13,7 +13,7 @@ use Rattle.ipx_sockets.specs.declared.source_filter.SourceFilter.{SourceFilter}
 use Rattle.ipx_sockets.specs.declared.sockets.UdpSockets.{UdpSockets}
 use Rattle.ipx_sockets.specs.Moments.{IsTimeUntilDue}
 use Rattle.ipx_site.specs.IdleTime.{IsToAskAgain}
-use Rattle.ipx_site.specs.PortCalls.{ReceivesAtPort, SendsByPort}
+use Rattle.ipx_site.specs.PortCalls.{FailsToReceiveAt, FailsToSendBy, ReceivesAtPort, SendsByPort}
 use Rattle.ipx_site.specs.PortsView.{SitePortsRun, filtered_in_ports, ways_in}
 use Rattle.ipx_site.specs.RouterPings.{BeginsTurns}
 use Rattle.ipx_site.specs.SiteMarks.{marks_of_ports}
@@ -35,7 +35,7 @@ IsRound {K} {gd} {ge} {gl} clock clock_after stops tells ports ports_after times
     × (mid : SiteCore) × (begun : SitePortsRun gd ge gl) × stops clock now tick
     × (moment ≡ now) × AsksAgain now times times_after old mid × BeginsTurns now ports begun
     × BurstsBy SiteHears SiteHearOutOfMemory SiteGives SiteNextOutOfMemory tells
-    ReceivesAtPort SendsByPort filtered_in_ports marks_of_ports (length old.core.core.core.router.ports) 1536
+    ReceivesAtPort SendsByPort FailsToReceiveAt FailsToSendBy filtered_in_ports marks_of_ports (length old.core.core.core.router.ports) 1536
     (ways_in ports) 32 b begun ports_after tick clock_after mid new
 
 -- how long it waits, and when. After a fault it waits 100 ms. After a batch that was not quiet it does not

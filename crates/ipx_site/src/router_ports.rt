@@ -154,7 +154,7 @@ impl<D: Datagrams + Drop, E: EndSockets + Drop, L: PlaceSockets + Drop> PortDriv
     for RouterPorts<D, E, L> {
     ghost use Rattle.std.specs.Prelude.{Bool, List, ℕ};
     ghost use Rattle.ipx_carrier.specs.Turns.{Peers};
-    ghost use Rattle.ipx_site.specs.PortCalls.{FailsToReceive, FailsToSend, ReceivesAtPort, SendsByPort};
+    ghost use Rattle.ipx_site.specs.PortCalls.{FailsToReceiveAt, FailsToSendBy, ReceivesAtPort, SendsByPort};
     ghost use Rattle.ipx_site.specs.RouterPorts.{PortCopy};
     ghost use Rattle.ipx_site.specs.declared.router_ports.PortIndex.{PortIndex};
 
@@ -201,6 +201,10 @@ impl<D: Datagrams + Drop, E: EndSockets + Drop, L: PlaceSockets + Drop> PortDriv
 
     ghost sends = { SendsByPort };
 
+    ghost fails_to_receive = { FailsToReceiveAt };
+
+    ghost fails_to_send = { FailsToSendBy };
+
     fn ports(&self) -> usize {
         self.port_indices.len()
     }
@@ -216,8 +220,8 @@ impl<D: Datagrams + Drop, E: EndSockets + Drop, L: PlaceSockets + Drop> PortDriv
         // unchanged.
         ensures sends { OnOk result (SendsByPort self.old
             (record { port = port; node = node; bytes = packet.now }) self.new) }
-        ensures fails { OnErr result (FailsToSend (slice_get self.old.port_indices.items port)
-            self.old (record { port = port; node = node; bytes = packet.now }) self.new) }
+        ensures fails_to_send { OnErr result (FailsToSendBy self.old
+            (record { port = port; node = node; bytes = packet.now }) self.new) }
         ensures count { IfOk result (λ sent. count_in sent
             ≡ copies_count (by_kind (peers_of self.old.datagrams.peers.items)
             (map (λ h. h.port) self.old.ethernet.switches.items) self.old.port_indices.items)
@@ -266,8 +270,8 @@ impl<D: Datagrams + Drop, E: EndSockets + Drop, L: PlaceSockets + Drop> PortDriv
         // ipxnet port were asked. The ports of other kinds are unchanged.
         ensures receives { IfOk result (λ count. ReceivesAtPort self.old port (length room.old)
             (received_in room.new count) self.new) }
-        ensures fails { OnErr result (FailsToReceive (slice_get self.old.port_indices.items port)
-            self.old self.new) }
+        ensures fails_to_receive { OnErr result
+            (FailsToReceiveAt self.old port (length room.old) self.new) }
         ensures within { IfOk result (λ count. IfSome count (λ n. n ≤ length room.old)) }
         ensures failures { D.failed self.new.datagrams.device
             ≡ device_failures result (D.failed self.old.datagrams.device) }

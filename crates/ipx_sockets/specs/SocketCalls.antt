@@ -44,3 +44,7 @@ SendsThroughFilter sends old d new =
     (may_go (slice_get old.access_lists.items d.port) d.to ≡ true → sends old.device d new.device)
     × (may_go (slice_get old.access_lists.items d.port) d.to ≡ false → new.device ≡ old.device)
     × (new.access_lists ≡ old.access_lists) × (new.kept ≡ old.kept)
+
+-- the device below failed so, and nothing else changed
+abbrev pub FailsThroughFilter : {D : Type 0} → (D → D → Type 0) → SourceFilter D → SourceFilter D → Type 0
+FailsThroughFilter fails old new = fails old.device new.device × (new ≡ record old { device = new.device })

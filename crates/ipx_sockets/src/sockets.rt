@@ -255,6 +255,11 @@ impl Datagrams for UdpSockets {
 
     ghost sends = { SendsDatagram };
 
+    // It never fails.
+    ghost fails_to_receive = { λ d port size e. ⊥ };
+
+    ghost fails_to_send = { λ d datagram e. ⊥ };
+
     fn ports(&self) -> usize {
         self.sockets.len()
     }

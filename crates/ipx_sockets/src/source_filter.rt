@@ -9,7 +9,7 @@ ghost use Rattle.ipx_carrier.specs.RunFaultNumbers.{device_failures};
 ghost use Rattle.ipx_carrier.specs.Waits.{LeavesPort};
 ghost use Rattle.ipx_sockets.specs.PortFilterDrops.{CountsUnknownSenderAt, drops_changed_at, nothing_at_port, one_refused};
 ghost use Rattle.ipx_sockets.specs.SourceFilter.{IsVerdictOn, TakesIn, is_listed, drops_in, may_go, may_originate, zero_drops, no_filter_drops, one_more};
-ghost use Rattle.ipx_sockets.specs.SocketCalls.{ReceivesThroughFilter, SendsThroughFilter};
+ghost use Rattle.ipx_sockets.specs.SocketCalls.{FailsThroughFilter, ReceivesThroughFilter, SendsThroughFilter};
 ghost use Rattle.ipx_config.specs.Values.{is_peer};
 ghost use Rattle.ipx_sockets.specs.AccessLists.{access_by};
 
@@ -308,6 +308,13 @@ impl<D: Senders + Drop> Datagrams for SourceFilter<D> {
 
     ghost sends = { SendsThroughFilter D.sends };
 
+    // It fails if the device below does, and never if that never fails.
+    ghost fails_to_receive = { λ p port size q. FailsThroughFilter
+        (λ d e. D.fails_to_receive d port size e) p q };
+
+    ghost fails_to_send = { λ p datagram q. FailsThroughFilter
+        (λ d e. D.fails_to_send d datagram e) p q };
+
     fn ports(&self) -> usize {
         self.device.ports()
     }
@@ -327,6 +334,9 @@ impl<D: Senders + Drop> Datagrams for SourceFilter<D> {
             [] (record { port = port; to = to; bytes = bytes.now } ∷ [])) }
         ensures faulty { OnErr result
             (D.traffic self.new.device ≡ D.traffic self.old.device) }
+        // If the device below fails, nothing else changes.
+        ensures fails_to_send { OnErr result (FailsThroughFilter (λ d e. D.fails_to_send d
+            (record { port = port; to = to; bytes = bytes.now }) e) self.old self.new) }
         ensures counted { may_go (slice_get self.old.access_lists.items port) to ≡ true
             → (self.new.refused ≡ self.old.refused)
             × (self.new.last_refused ≡ self.old.last_refused) }
@@ -372,6 +382,9 @@ impl<D: Senders + Drop> Datagrams for SourceFilter<D> {
         ensures faulty { OnErr result ((D.traffic self.new.device ≡ D.traffic self.old.device)
             × (D.waiting self.new.device ≡ D.waiting self.old.device)
             × (self.new.kept ≡ self.old.kept)) }
+        // If the device below fails, nothing else changes.
+        ensures fails_to_receive { OnErr result (FailsThroughFilter (λ d e.
+            D.fails_to_receive d port (length room.old) e) self.old self.new) }
         ensures fails { D.fails self.old.device (is_err result) self.new.device }
         // A datagram from an unknown sender is counted at its port too.
         ensures port_counters { CountsUnknownSenderAt port self.old.kept.unknown_senders.count

@@ -11,7 +11,7 @@ returns-in-Err-clause-turns g c =
     let i = l.invariant in
     let again = begins_again i.ports i.driver_ports (i.failures can) can in
     let wide : length l.room ≡ 1536 = omega arith in
-    ends_badly g.C.Core.hears g.C.Core.hear_out_of_memory g.C.Core.gives g.C.Core.next_out_of_memory g.K.Clock.tells g.S.PortDriver.receives g.S.PortDriver.sends g.S.PortDriver.filtered g.S.PortDriver.marked (g.C.Core.port_count c.args.core.now) 1536 (g.S.PortDriver.transmissions c.args.driver.now) (g.C.Core.port_count l.core) (length l.room) l._turn c.args.most (g.S.PortDriver.transmissions l.driver) c.args.driver.now l.driver c.run_once_lent.new.driver c.args.clock.now l.clock c.run_once_lent.new.clock c.args.core.now l.core c.run_once_lent.new.core l.batch c.ended_by.result c.in-Err.fault i.ports wide i.transmissions (omega (arith, c.loop-turn-test.true)) i.loud c.ended_by.ensures (i.goes can) c.in-Err.ensures.filtered (c.in-Err.ensures.marks_fault again)
+    ends_badly g.C.Core.hears g.C.Core.hear_out_of_memory g.C.Core.gives g.C.Core.next_out_of_memory g.K.Clock.tells g.S.PortDriver.receives g.S.PortDriver.sends g.S.PortDriver.fails_to_receive g.S.PortDriver.fails_to_send g.S.PortDriver.filtered g.S.PortDriver.marked (g.C.Core.port_count c.args.core.now) 1536 (g.S.PortDriver.transmissions c.args.driver.now) (g.C.Core.port_count l.core) (length l.room) l._turn c.args.most (g.S.PortDriver.transmissions l.driver) c.args.driver.now l.driver c.run_once_lent.new.driver c.args.clock.now l.clock c.run_once_lent.new.clock c.args.core.now l.core c.run_once_lent.new.core l.batch c.ended_by.result c.in-Err.fault i.ports wide i.transmissions (omega (arith, c.loop-turn-test.true)) i.loud c.ended_by.ensures (i.goes can) c.in-Err.ensures.filtered (c.in-Err.ensures.marks_fault again)
 
 pub returns-in-Err-clause-refused : goal.returns-in-Err-clause-refused
 returns-in-Err-clause-refused g c =
@@ -35,7 +35,7 @@ returns-then-filtered-kept-clause-turns g c =
     let report = c.in-Ok.report in
     let counted = c.with-batch.ensures in
     let wide : length l.room ≡ 1536 = omega arith in
-    ends_quietly g.C.Core.hears g.C.Core.hear_out_of_memory g.C.Core.gives g.C.Core.next_out_of_memory g.K.Clock.tells g.S.PortDriver.receives g.S.PortDriver.sends g.S.PortDriver.filtered g.S.PortDriver.marked (g.C.Core.port_count c.args.core.now) 1536 (g.S.PortDriver.transmissions c.args.driver.now) (g.C.Core.port_count l.core) (length l.room) l._turn c.args.most (g.S.PortDriver.transmissions l.driver) c.args.driver.now l.driver c.run_once_lent.new.driver c.args.clock.now l.clock c.run_once_lent.new.clock c.args.core.now l.core c.run_once_lent.new.core l.batch c.with-batch.result c.quieted.result report i.ports wide i.transmissions (omega (arith, c.loop-turn-test.true)) (i.goes can) (sym c.filtered.ensures ∙ c.if-filtered-kept.true ∙ c.filtered-kept.ensures) c.in-Ok.ensures.marks (c.is_idle.ensures.0 c.if-is_idle.true) (counted.heard, counted.sent, counted.unmapped) (counted.rest.0 ∙ i.whole) c.quieted.ensures
+    ends_quietly g.C.Core.hears g.C.Core.hear_out_of_memory g.C.Core.gives g.C.Core.next_out_of_memory g.K.Clock.tells g.S.PortDriver.receives g.S.PortDriver.sends g.S.PortDriver.fails_to_receive g.S.PortDriver.fails_to_send g.S.PortDriver.filtered g.S.PortDriver.marked (g.C.Core.port_count c.args.core.now) 1536 (g.S.PortDriver.transmissions c.args.driver.now) (g.C.Core.port_count l.core) (length l.room) l._turn c.args.most (g.S.PortDriver.transmissions l.driver) c.args.driver.now l.driver c.run_once_lent.new.driver c.args.clock.now l.clock c.run_once_lent.new.clock c.args.core.now l.core c.run_once_lent.new.core l.batch c.with-batch.result c.quieted.result report i.ports wide i.transmissions (omega (arith, c.loop-turn-test.true)) (i.goes can) (sym c.filtered.ensures ∙ c.if-filtered-kept.true ∙ c.filtered-kept.ensures) c.in-Ok.ensures.marks (c.is_idle.ensures.0 c.if-is_idle.true) (counted.heard, counted.sent, counted.unmapped) (counted.rest.0 ∙ i.whole) c.quieted.ensures
 
 pub loop-turn-preserved : goal.loop-turn-preserved
 loop-turn-preserved g c =

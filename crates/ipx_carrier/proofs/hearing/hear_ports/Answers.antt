@@ -10,13 +10,13 @@ pub returns-in_err-hear_port-clause-fault : goal.returns-in_err-hear_port-clause
 returns-in_err-hear_port-clause-fault g c =
     let p = err_from_is_err_and c.from_residual.result c.from_residual.ensures.1 in
     rw (p.1, p.2)
-    (asked_some g.C.Core.hears g.C.Core.hear_out_of_memory g.S.PortDriver.receives c.args.now _ c.loop-port.port _ _ _ _ _ _ _ _ _ c.loop-port.heard _ c.loop-port.invariant.asked c.in_err-hear_port.ensures.fault (omega arith))
+    (asked_some g.C.Core.hears g.C.Core.hear_out_of_memory g.S.PortDriver.receives g.S.PortDriver.fails_to_receive c.args.now _ c.loop-port.port _ _ _ _ _ _ _ _ _ c.loop-port.heard _ c.loop-port.invariant.asked c.in_err-hear_port.ensures.fault (omega arith))
 
 pub returns-in_err-hear_port-clause-marks_fault : goal.returns-in_err-hear_port-clause-marks_fault
 returns-in_err-hear_port-clause-marks_fault g c =
     let p = err_from_is_err_and c.from_residual.result c.from_residual.ensures.1 in
     rw (p.1, p.2)
-    (asks_some g.C.Core.hears g.C.Core.hear_out_of_memory g.S.PortDriver.receives g.S.PortDriver.marked c.args.now (length c.args.room.now) _ c.loop-port.port _ _ _ _ _ _ _ _ _ c.loop-port.heard _ c.loop-port.invariant.room c.loop-port.invariant.marks c.in_err-hear_port.ensures.fault c.in_err-hear_port.ensures.marks_stay (omega arith))
+    (asks_some g.C.Core.hears g.C.Core.hear_out_of_memory g.S.PortDriver.receives g.S.PortDriver.fails_to_receive g.S.PortDriver.marked c.args.now (length c.args.room.now) _ c.loop-port.port _ _ _ _ _ _ _ _ _ c.loop-port.heard _ c.loop-port.invariant.room c.loop-port.invariant.marks c.in_err-hear_port.ensures.fault c.in_err-hear_port.ensures.marks_stay (omega arith))
 
 pub returns-in_err-hear_port-clause-waiting : goal.returns-in_err-hear_port-clause-waiting
 returns-in_err-hear_port-clause-waiting g c =

@@ -9,13 +9,13 @@ pub returns-in_err-heard-clause-marks_fault : goal.returns-in_err-heard-clause-m
 returns-in_err-heard-clause-marks_fault g c =
     let p = err_from_is_err_and c.from_residual.result c.from_residual.ensures.1 in
     rw (p.1, p.2)
-    (fault_hearing g.C.Core.hears g.C.Core.hear_out_of_memory g.C.Core.gives g.C.Core.next_out_of_memory g.K.Clock.tells g.S.PortDriver.receives g.S.PortDriver.sends g.S.PortDriver.marked (g.C.Core.port_count c.args.core.now) (length c.args.room.now) (g.S.PortDriver.transmissions c.args.driver.now) c.now-now.result _ _ _ _ _ _ _ c.now-now.ensures c.in_err-heard.ensures.marks_fault)
+    (fault_hearing g.C.Core.hears g.C.Core.hear_out_of_memory g.C.Core.gives g.C.Core.next_out_of_memory g.K.Clock.tells g.S.PortDriver.receives g.S.PortDriver.sends g.S.PortDriver.fails_to_receive g.S.PortDriver.fails_to_send g.S.PortDriver.marked (g.C.Core.port_count c.args.core.now) (length c.args.room.now) (g.S.PortDriver.transmissions c.args.driver.now) c.now-now.result _ _ _ _ _ _ _ c.now-now.ensures c.in_err-heard.ensures.marks_fault)
 
 pub returns-in_err-totals-clause-marks_fault : goal.returns-in_err-totals-clause-marks_fault
 returns-in_err-totals-clause-marks_fault g c =
     let p = err_from_is_err_and c.from_residual-in_err-totals.result c.from_residual-in_err-totals.ensures.1 in
     rw (p.1, p.2)
-    (fault_sending g.C.Core.hears g.C.Core.hear_out_of_memory g.C.Core.gives g.C.Core.next_out_of_memory g.K.Clock.tells g.S.PortDriver.receives g.S.PortDriver.sends g.S.PortDriver.marked (g.C.Core.port_count c.args.core.now) (length c.args.room.now) (g.S.PortDriver.transmissions c.args.driver.now) c.now-now.result _ _ _ _ _ _ _ _ _ _ _ _ c.in_ok-heard.heard c.now-now.ensures c.in_ok-heard.ensures.transmissions c.in_ok-heard.ensures.marks c.in_err-totals.ensures.fault c.in_err-totals.ensures.marks)
+    (fault_sending g.C.Core.hears g.C.Core.hear_out_of_memory g.C.Core.gives g.C.Core.next_out_of_memory g.K.Clock.tells g.S.PortDriver.receives g.S.PortDriver.sends g.S.PortDriver.fails_to_receive g.S.PortDriver.fails_to_send g.S.PortDriver.marked (g.C.Core.port_count c.args.core.now) (length c.args.room.now) (g.S.PortDriver.transmissions c.args.driver.now) c.now-now.result _ _ _ _ _ _ _ _ _ _ _ _ c.in_ok-heard.heard c.now-now.ensures c.in_ok-heard.ensures.transmissions c.in_ok-heard.ensures.marks c.in_err-totals.ensures.fault c.in_err-totals.ensures.marks)
 
 pub returns-clause-marks : goal.returns-clause-marks
 returns-clause-marks g c =
@@ -31,7 +31,7 @@ pub returns-in_err-totals-clause-fault : goal.returns-in_err-totals-clause-fault
 returns-in_err-totals-clause-fault g c =
     let p = err_from_is_err_and c.from_residual-in_err-totals.result c.from_residual-in_err-totals.ensures.1 in
     rw (p.1, p.2)
-    (ends_sending g.C.Core.hears g.C.Core.hear_out_of_memory g.C.Core.gives g.C.Core.next_out_of_memory g.K.Clock.tells (g.C.Core.port_count c.args.core.now) (g.S.PortDriver.transmissions c.args.driver.now) g.S.PortDriver.sends c.now-now.result _ _ _ _ _ _ _ _ _ _ _ _ c.in_ok-heard.heard c.now-now.ensures c.in_ok-heard.ensures.transmissions c.in_ok-heard.ensures.heard c.in_err-totals.ensures.fault)
+    (ends_sending g.C.Core.hears g.C.Core.hear_out_of_memory g.C.Core.gives g.C.Core.next_out_of_memory g.K.Clock.tells (g.C.Core.port_count c.args.core.now) (g.S.PortDriver.transmissions c.args.driver.now) g.S.PortDriver.sends g.S.PortDriver.fails_to_send c.now-now.result _ _ _ _ _ _ _ _ _ _ _ _ c.in_ok-heard.heard c.now-now.ensures c.in_ok-heard.ensures.transmissions c.in_ok-heard.ensures.heard c.in_err-totals.ensures.fault)
 
 pub returns-clause-turn : goal.returns-clause-turn
 returns-clause-turn g c =

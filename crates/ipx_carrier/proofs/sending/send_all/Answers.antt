@@ -11,7 +11,7 @@ pub returns-in_err-sent-clause-fault : goal.returns-in_err-sent-clause-fault
 returns-in_err-sent-clause-fault g c =
     let p = err_from_is_err_and c.from_residual.result c.from_residual.ensures.1 in
     rw (p.1, p.2)
-    (sends_in_part_there g.C.Core.gives g.C.Core.next_out_of_memory g.S.PortDriver.sends c.args.now (g.S.PortDriver.transmissions c.args.driver.now) c.loop-asked._asked 64 (g.S.PortDriver.transmissions c.loop-asked.driver) _ _ _ _ _ _ _ _ _ c.loop-asked.totals _ c.loop-asked.invariant.transmissions c.loop-asked.invariant.sent (omega arith) c.in_err-sent.ensures.fault)
+    (sends_in_part_there g.C.Core.gives g.C.Core.next_out_of_memory g.S.PortDriver.sends g.S.PortDriver.fails_to_send c.args.now (g.S.PortDriver.transmissions c.args.driver.now) c.loop-asked._asked 64 (g.S.PortDriver.transmissions c.loop-asked.driver) _ _ _ _ _ _ _ _ _ c.loop-asked.totals _ c.loop-asked.invariant.transmissions c.loop-asked.invariant.sent (omega arith) c.in_err-sent.ensures.fault)
 
 pub loop-asked-preserved : goal.loop-asked-preserved
 loop-asked-preserved g c =

@@ -4,4 +4,4 @@ use Rattle.ipx_carrier.proofs.placed_socket.PlacedSocket.receive_in_tries.Given 
 
 -- each try before failed
 abbrev pub invariant-loop-failed : goal.invariant-loop-failed
-invariant-loop-failed l = (l.self ≡ failed_to_receive l.failed l.fn.self) × (length l.room ≡ length l.fn.room)
+invariant-loop-failed l = (l.self ≡ failed_to_receive l.failed (length l.fn.room) l.fn.self) × (length l.room ≡ length l.fn.room)

@@ -10,11 +10,11 @@ returns-in-Datagrams-clause-receives g c =
     let there = index_there self.port_indices.items c.args.port c.index.result.now (Datagrams c.in-Datagrams.place) c.requires.there c.index.ensures c.in-Datagrams.is in
     receives_datagrams self _ c.in-Datagrams.place (refl, refl) c.args.port _ c.receive.new.room c.receive.result there refl refl c.receive.ensures.receives c.receive.ensures.received
 
-pub returns-in-Datagrams-clause-fails : goal.returns-in-Datagrams-clause-fails
-returns-in-Datagrams-clause-fails g c =
+pub returns-in-Datagrams-clause-fails_to_receive : goal.returns-in-Datagrams-clause-fails_to_receive
+returns-in-Datagrams-clause-fails_to_receive g c =
     let self = c.args.self.now in
     let there = index_there self.port_indices.items c.args.port c.index.result.now (Datagrams c.in-Datagrams.place) c.requires.there c.index.ensures c.in-Datagrams.is in
-    fails_to_receive self _ c.in-Datagrams.place (refl, refl) c.args.port c.receive.result there refl refl c.receive.ensures.refused
+    fails_to_receive self _ c.in-Datagrams.place (refl, refl) c.args.port _ c.receive.result there refl refl c.receive.ensures.fails_to_receive c.receive.ensures.refused
 
 pub returns-in-Ethernet-clause-receives : goal.returns-in-Ethernet-clause-receives
 returns-in-Ethernet-clause-receives g c =
@@ -22,8 +22,8 @@ returns-in-Ethernet-clause-receives g c =
     let there = index_there self.port_indices.items c.args.port c.index.result.now (Ethernet c.in-Ethernet.place) c.requires.there c.index.ensures c.in-Ethernet.is in
     receives_ethernet self _ c.in-Ethernet.place (refl, refl) c.args.port _ c.receive-in-Ethernet.new.room c.receive-in-Ethernet.result there refl refl c.receive-in-Ethernet.ensures.receives
 
-pub returns-in-Ethernet-clause-fails : goal.returns-in-Ethernet-clause-fails
-returns-in-Ethernet-clause-fails g c = never_fails _ c.receive-in-Ethernet.result c.receive-in-Ethernet.ensures.goes_on
+pub returns-in-Ethernet-clause-fails_to_receive : goal.returns-in-Ethernet-clause-fails_to_receive
+returns-in-Ethernet-clause-fails_to_receive g c = never_fails _ c.receive-in-Ethernet.result c.receive-in-Ethernet.ensures.goes_on
 
 pub returns-in-IpxnetServer-clause-receives : goal.returns-in-IpxnetServer-clause-receives
 returns-in-IpxnetServer-clause-receives g c =
@@ -31,8 +31,8 @@ returns-in-IpxnetServer-clause-receives g c =
     let there = index_there self.port_indices.items c.args.port c.index.result.now (IpxnetServer c.in-IpxnetServer.place) c.requires.there c.index.ensures c.in-IpxnetServer.is in
     receives_servers self _ c.in-IpxnetServer.place (refl, refl) c.args.port _ c.receive-in-IpxnetServer.new.room c.receive-in-IpxnetServer.result there refl refl c.receive-in-IpxnetServer.ensures.receives
 
-pub returns-in-IpxnetServer-clause-fails : goal.returns-in-IpxnetServer-clause-fails
-returns-in-IpxnetServer-clause-fails g c = never_fails _ c.receive-in-IpxnetServer.result c.receive-in-IpxnetServer.ensures.goes_on
+pub returns-in-IpxnetServer-clause-fails_to_receive : goal.returns-in-IpxnetServer-clause-fails_to_receive
+returns-in-IpxnetServer-clause-fails_to_receive g c = never_fails _ c.receive-in-IpxnetServer.result c.receive-in-IpxnetServer.ensures.goes_on
 
 pub returns-in-Datagrams-clause-marks : goal.returns-in-Datagrams-clause-marks
 returns-in-Datagrams-clause-marks g c =

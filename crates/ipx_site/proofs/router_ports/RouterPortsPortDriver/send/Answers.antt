@@ -13,12 +13,12 @@ returns-in-Datagrams-clause-sends g c =
     let there = index_there self.port_indices.items c.args.port c.index.result.now (Datagrams c.in-Datagrams.place) c.requires.there c.index.ensures c.in-Datagrams.is in
     sends_datagrams self _ c.in-Datagrams.place (refl, refl) packet c.send.result there refl refl c.send.ensures.sends c.send.ensures.sent
 
-pub returns-in-Datagrams-clause-fails : goal.returns-in-Datagrams-clause-fails
-returns-in-Datagrams-clause-fails g c =
+pub returns-in-Datagrams-clause-fails_to_send : goal.returns-in-Datagrams-clause-fails_to_send
+returns-in-Datagrams-clause-fails_to_send g c =
     let self = c.args.self.now in
     let packet : Given = record { port = c.args.port; node = c.args.node; bytes = c.args.packet.now } in
     let there = index_there self.port_indices.items c.args.port c.index.result.now (Datagrams c.in-Datagrams.place) c.requires.there c.index.ensures c.in-Datagrams.is in
-    fails_to_send self _ c.in-Datagrams.place (refl, refl) packet c.send.result there refl refl c.send.ensures.refused
+    fails_to_send self _ c.in-Datagrams.place (refl, refl) packet c.send.result there refl refl c.send.ensures.fails_to_send c.send.ensures.refused
 
 pub returns-in-Ethernet-clause-sends : goal.returns-in-Ethernet-clause-sends
 returns-in-Ethernet-clause-sends g c =
@@ -27,8 +27,8 @@ returns-in-Ethernet-clause-sends g c =
     let there = index_there self.port_indices.items c.args.port c.index.result.now (Ethernet c.in-Ethernet.place) c.requires.there c.index.ensures c.in-Ethernet.is in
     sends_ethernet self _ c.in-Ethernet.place (refl, refl) packet c.send-in-Ethernet.result there refl refl c.send-in-Ethernet.ensures.sends
 
-pub returns-in-Ethernet-clause-fails : goal.returns-in-Ethernet-clause-fails
-returns-in-Ethernet-clause-fails g c = never_fails _ c.send-in-Ethernet.result c.send-in-Ethernet.ensures.goes_on
+pub returns-in-Ethernet-clause-fails_to_send : goal.returns-in-Ethernet-clause-fails_to_send
+returns-in-Ethernet-clause-fails_to_send g c = never_fails _ c.send-in-Ethernet.result c.send-in-Ethernet.ensures.goes_on
 
 pub returns-in-IpxnetServer-clause-sends : goal.returns-in-IpxnetServer-clause-sends
 returns-in-IpxnetServer-clause-sends g c =
@@ -37,8 +37,8 @@ returns-in-IpxnetServer-clause-sends g c =
     let there = index_there self.port_indices.items c.args.port c.index.result.now (IpxnetServer c.in-IpxnetServer.place) c.requires.there c.index.ensures c.in-IpxnetServer.is in
     sends_servers self _ c.in-IpxnetServer.place (refl, refl) packet c.send-in-IpxnetServer.result there refl refl c.send-in-IpxnetServer.ensures.sends
 
-pub returns-in-IpxnetServer-clause-fails : goal.returns-in-IpxnetServer-clause-fails
-returns-in-IpxnetServer-clause-fails g c = never_fails _ c.send-in-IpxnetServer.result c.send-in-IpxnetServer.ensures.goes_on
+pub returns-in-IpxnetServer-clause-fails_to_send : goal.returns-in-IpxnetServer-clause-fails_to_send
+returns-in-IpxnetServer-clause-fails_to_send g c = never_fails _ c.send-in-IpxnetServer.result c.send-in-IpxnetServer.ensures.goes_on
 
 pub returns-in-Datagrams-clause-count : goal.returns-in-Datagrams-clause-count
 returns-in-Datagrams-clause-count g c =
