@@ -22,7 +22,8 @@ server_drops c =
 
 abbrev pub clients_family : List IpxnetPortMetrics → MetricFamily
 clients_family ports =
-    gauge (codes "ipx_ipxnet_clients") (codes "Registered clients") (map (λ p. at_port p.number p.clients) ports)
+    gauge (codes "ipx_ipxnet_clients") (codes "Players connected at the port")
+    (map (λ p. at_port p.number p.clients) ports)
 
 abbrev pub servers_dropped_family : List IpxnetPortMetrics → MetricFamily
 servers_dropped_family ports =

@@ -37,12 +37,16 @@ port_dropped_family counters =
 
 abbrev pub port_families : List Port → List PortCounts → List MetricFamily
 port_families ports counters =
-    counter (codes "ipx_port_receive_packets_total") (codes "Datagrams received, by port")
+    counter (codes "ipx_port_receive_packets_total")
+    (codes "Datagrams that the router itself processed, by port of arrival")
     (port_samples Heard ports counters)
-    ∷ counter (codes "ipx_port_receive_bytes_total") (codes "Bytes of these")
+    ∷ counter (codes "ipx_port_receive_bytes_total")
+    (codes "Bytes of ipx_port_receive_packets_total, from the IPX header on")
     (port_samples HeardBytes ports counters)
-    ∷ counter (codes "ipx_port_transmit_packets_total") (codes "Packets handed to a port for sending")
+    ∷ counter (codes "ipx_port_transmit_packets_total")
+    (codes "Packets that the router itself gave to a port, each counted once")
     (port_samples Sent ports counters)
-    ∷ counter (codes "ipx_port_transmit_bytes_total") (codes "Bytes of these")
+    ∷ counter (codes "ipx_port_transmit_bytes_total")
+    (codes "Bytes of ipx_port_transmit_packets_total, from the IPX header on")
     (port_samples SentBytes ports counters)
     ∷ port_dropped_family counters ∷ []

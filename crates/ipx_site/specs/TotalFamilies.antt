@@ -43,8 +43,11 @@ faults_family m =
 -- the families of a whole router, in their order
 abbrev pub total_families : Metrics → List MetricFamily
 total_families m =
-    counter (codes "ipx_receive_packets_total") (codes "Datagrams received") (unlabelled m.heard)
-    ∷ counter (codes "ipx_transmit_packets_total") (codes "Datagrams that the system accepted for sending")
+    counter (codes "ipx_receive_packets_total")
+    (codes "Datagrams that the router itself processed, none between two players or two remotes")
+    (unlabelled m.heard)
+    ∷ counter (codes "ipx_transmit_packets_total")
+    (codes "Datagrams sent at RFC 1234 ports, one for each peer that a packet goes to")
     (unlabelled m.sent)
     ∷ outcomes_family m.outcomes ∷ dropped_family m
     ∷ counter (codes "ipx_unknown_senders_total") (codes "Datagrams from unknown senders, not accepted")

@@ -14,7 +14,7 @@ use std::alloc::{AllocError, Global};
 
 const CLIENTS: Family = Family {
     name: "ipx_ipxnet_clients",
-    help: "Registered clients",
+    help: "Players connected at the port",
     kind: "gauge",
 };
 

@@ -76,13 +76,13 @@ pub struct Metrics {
 
 const HEARD: Family = Family {
     name: "ipx_receive_packets_total",
-    help: "Datagrams received",
+    help: "Datagrams that the router itself processed, none between two players or two remotes",
     kind: "counter",
 };
 
 const SENT: Family = Family {
     name: "ipx_transmit_packets_total",
-    help: "Datagrams that the system accepted for sending",
+    help: "Datagrams sent at RFC 1234 ports, one for each peer that a packet goes to",
     kind: "counter",
 };
 

@@ -15,25 +15,25 @@ use std::alloc::{AllocError, Global};
 
 const HEARD: Family = Family {
     name: "ipx_port_receive_packets_total",
-    help: "Datagrams received, by port",
+    help: "Datagrams that the router itself processed, by port of arrival",
     kind: "counter",
 };
 
 const HEARD_BYTES: Family = Family {
     name: "ipx_port_receive_bytes_total",
-    help: "Bytes of these",
+    help: "Bytes of ipx_port_receive_packets_total, from the IPX header on",
     kind: "counter",
 };
 
 const SENT: Family = Family {
     name: "ipx_port_transmit_packets_total",
-    help: "Packets handed to a port for sending",
+    help: "Packets that the router itself gave to a port, each counted once",
     kind: "counter",
 };
 
 const SENT_BYTES: Family = Family {
     name: "ipx_port_transmit_bytes_total",
-    help: "Bytes of these",
+    help: "Bytes of ipx_port_transmit_packets_total, from the IPX header on",
     kind: "counter",
 };
 

@@ -124,7 +124,8 @@ const LINES: [&str; 30] = [
 ];
 
 const START: &str = "\
-# HELP ipx_receive_packets_total Datagrams received.
+# HELP ipx_receive_packets_total Datagrams that the router itself processed, none between two \
+players or two remotes.
 # TYPE ipx_receive_packets_total counter
 ipx_receive_packets_total 1
 ";

@@ -158,10 +158,12 @@ fn ipxnet(alloc: Global) -> Result<IpxnetMetrics, AllocError> {
 }
 
 const TEXT: &str = "\
-# HELP ipx_receive_packets_total Datagrams received.
+# HELP ipx_receive_packets_total Datagrams that the router itself processed, none between two \
+players or two remotes.
 # TYPE ipx_receive_packets_total counter
 ipx_receive_packets_total 1
-# HELP ipx_transmit_packets_total Datagrams that the system accepted for sending.
+# HELP ipx_transmit_packets_total Datagrams sent at RFC 1234 ports, one for each peer that a \
+packet goes to.
 # TYPE ipx_transmit_packets_total counter
 ipx_transmit_packets_total 2
 # HELP ipx_outcomes_total Datagrams received and not dropped, by outcome.
@@ -212,22 +214,25 @@ ipx_services 21
 # HELP ipx_uptime_seconds Seconds since the start.
 # TYPE ipx_uptime_seconds gauge
 ipx_uptime_seconds 22
-# HELP ipx_port_receive_packets_total Datagrams received, by port.
+# HELP ipx_port_receive_packets_total Datagrams that the router itself processed, by port of \
+arrival.
 # TYPE ipx_port_receive_packets_total counter
 ipx_port_receive_packets_total{port=\"1\",network=\"00000011\"} 1055
 ipx_port_receive_packets_total{port=\"2\",network=\"00000022\"} 2055
 ipx_port_receive_packets_total{port=\"3\",network=\"00000033\"} 3055
-# HELP ipx_port_receive_bytes_total Bytes of these.
+# HELP ipx_port_receive_bytes_total Bytes of ipx_port_receive_packets_total, from the IPX header on.
 # TYPE ipx_port_receive_bytes_total counter
 ipx_port_receive_bytes_total{port=\"1\",network=\"00000011\"} 111
 ipx_port_receive_bytes_total{port=\"2\",network=\"00000022\"} 211
 ipx_port_receive_bytes_total{port=\"3\",network=\"00000033\"} 311
-# HELP ipx_port_transmit_packets_total Packets handed to a port for sending.
+# HELP ipx_port_transmit_packets_total Packets that the router itself gave to a port, each \
+counted once.
 # TYPE ipx_port_transmit_packets_total counter
 ipx_port_transmit_packets_total{port=\"1\",network=\"00000011\"} 112
 ipx_port_transmit_packets_total{port=\"2\",network=\"00000022\"} 212
 ipx_port_transmit_packets_total{port=\"3\",network=\"00000033\"} 312
-# HELP ipx_port_transmit_bytes_total Bytes of these.
+# HELP ipx_port_transmit_bytes_total Bytes of ipx_port_transmit_packets_total, from the IPX \
+header on.
 # TYPE ipx_port_transmit_bytes_total counter
 ipx_port_transmit_bytes_total{port=\"1\",network=\"00000011\"} 113
 ipx_port_transmit_bytes_total{port=\"2\",network=\"00000022\"} 213
@@ -298,7 +303,7 @@ ipx_frames_unknown_senders_total 516
 # HELP ipx_transmit_frames_total Frames that the system accepted for sending.
 # TYPE ipx_transmit_frames_total counter
 ipx_transmit_frames_total 517
-# HELP ipx_ipxnet_clients Registered clients.
+# HELP ipx_ipxnet_clients Players connected at the port.
 # TYPE ipx_ipxnet_clients gauge
 ipx_ipxnet_clients{port=\"3\"} 601
 # HELP ipx_ipxnet_dropped_total Datagrams from clients and packets to clients that were dropped, by \
