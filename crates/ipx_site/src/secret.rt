@@ -5,7 +5,6 @@ ghost use Rattle.std.specs.Prelude.{◌≡◌, IfErr};
 
 use crate::secret_file::{KeptText, SavedClients, kept_in, write_private};
 use ipx_config::{PortConfig, RouterConfig, tell_no_memory};
-use ipx_inspect::{InputFault, read_up_to};
 use ipxnet_server::Secret;
 use log::{Log, warn};
 use std::alloc::Global;
@@ -18,15 +17,17 @@ use std::rt::Files;
 const RANDOM: &str = "/dev/urandom";
 
 /// The most bytes of the file of a secret that are read: more than it has.
-const MAX_FILE: usize = 65_536;
+const MAX_FILE: u64 = 65_537;
 
 /// Why a router has no secret.
 enum SecretFault {
     OutOfMemory,
     /// The system does not give random bytes.
     Random(io::Error),
-    /// The file cannot be read, or cannot be made.
+    /// The file cannot be opened, or cannot be made.
     File(io::Error),
+    /// The file is there, and cannot be read.
+    Read(io::Error),
     /// The file holds something else.
     Text,
 }
@@ -78,6 +79,13 @@ fn kept_of_text<R: Log>(
     }
 }
 
+/// The first bytes of a file.
+fn bytes_of<F: Read + Drop>(alloc: Global, file: F) -> io::Result<Vec<u8>> {
+    let mut bytes = Vec::new(alloc);
+    file.take(MAX_FILE).read_to_end(&mut bytes)?;
+    Ok(bytes)
+}
+
 /// The secret of a file, and the clients that it lists. If there is no such file it is made.
 fn kept_of_file<R: Files + Log>(
     rt: &R,
@@ -85,15 +93,15 @@ fn kept_of_file<R: Files + Log>(
     path: &str,
     name: &str,
 ) -> Result<SavedClients, SecretFault> {
-    let mut file = match File::open(rt, name) {
+    let file = match File::open(rt, name) {
         Ok(file) => file,
         Err(error) if error.kind() == ErrorKind::NotFound => return make_secret(rt, alloc, name),
         Err(error) => return Err(SecretFault::File(error)),
     };
-    match read_up_to(alloc, &mut file, MAX_FILE + 1) {
+    match bytes_of(alloc, file) {
         Ok(text) => kept_of_text(rt, alloc, path, name, &text),
-        Err(InputFault::Memory) => Err(SecretFault::OutOfMemory),
-        Err(InputFault::Read) => Err(SecretFault::Text),
+        Err(error) if error.kind() == ErrorKind::OutOfMemory => Err(SecretFault::OutOfMemory),
+        Err(error) => Err(SecretFault::Read(error)),
     }
 }
 
@@ -108,6 +116,9 @@ fn tell_secret_fault<R: Eprint>(rt: &R, path: &str, name: &str, fault: SecretFau
         }
         SecretFault::File(error) => {
             let _ = eprintln!(rt; "{path}: secret_file {name}: {error}");
+        }
+        SecretFault::Read(error) => {
+            let _ = eprintln!(rt; "{path}: secret_file {name}: cannot be read: {error}");
         }
         SecretFault::Text => {
             let _ = eprintln!(rt;

@@ -222,6 +222,13 @@ def check_secret(run):
     status, said = process.status(10), process.said()
     run.check("a file that holds something else is a fault of the start, in one line",
               status == 1 and len(said) == 1 and "secret_file" in said[0], f"{status}: {said}")
+    folder = run.world.path("folder")
+    os.mkdir(folder)
+    file = run.world.write("folder.toml", f'secret_file = "{folder}"\n{table}')
+    process = run.world.start("folder", "route", file)
+    status, said = process.status(10), process.said()
+    wanted = f"{file}: secret_file {folder}: cannot be read: Is a directory (os error 21)"
+    run.check("a secret file that cannot be read is said to be so, with the cause", (status, said) == (1, [wanted]), f"{status}: {said}")
 
 
 def check_restart(run):
