@@ -40,8 +40,12 @@ use std::rt::Clock;
 fn tell_parted<R: Log>(rt: &R, session: &Session, fate: SessionAction) {
     let ended = fate == SessionAction::Over && session.phase == Phase::Ended;
     if session.is_heard() && !ended {
-        let from = session.from;
-        warn!(rt; target: "ipx", "{from}: connection lost");
+        let Address {
+            network,
+            node,
+            socket,
+        } = session.from;
+        warn!(rt; target: "ipx", "{network} {node} {socket}: connection lost");
     }
 }
 

@@ -62,11 +62,13 @@ impl Told for ServiceKey {
     fn tell_known<R: Log>(&self, rt: &R, source: Source, offered: ServiceMetric) {
         let kind = self.kind;
         let name = Escaped(&self.name);
-        let at = offered.at;
+        let network = offered.at.network;
+        let node = offered.at.node;
+        let socket = offered.at.socket;
         let port = source.port;
         let hops = offered.hops;
         info!(rt; target: "ipx",
-            "service added: {kind:04x} {name} at {at} via port {port} hops {hops}");
+            "service added: {kind:04x} {name} at {network} {node} {socket} via port {port} hops {hops}");
     }
 
     fn tell_lost<R: Log>(&self, rt: &R) {
