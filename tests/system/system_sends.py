@@ -9,7 +9,7 @@ from system_world import Pair, bound_in, came, fragments_of, refusing, wait
 PORT = 20213
 NO_WAY = "203.0.113.9"
 INNER, HOST = "127.0.0.1", "127.0.0.20"
-REFUSED = re.compile(r"\[WARN +ipx\] (\d+) datagrams refused by the system \((\d+) since the start\)(, .*)?")
+REFUSED = re.compile(r"\[WARN +ipx\] (\d+) datagrams? refused by the system \((\d+) since the start\)(, .*)?")
 DEVICE = 'ipx_errors_total{kind="device"}'
 HANDED = 'ipx_port_transmit_packets_total{port="1",network="00000001"}'
 

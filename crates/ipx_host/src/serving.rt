@@ -27,7 +27,7 @@ use crate::readiness_gate::Gate;
 use crate::running_host::RunningHost;
 use crate::sessions::{Phase, Session, SessionAction};
 use crate::taking::take_each;
-use ipx_sockets::ThrottledLog;
+use ipx_sockets::{Noun, ThrottledLog};
 use ipx_wire::Address;
 use log::{Log, warn};
 use spx_messages::Endpoint;
@@ -35,6 +35,21 @@ use std::alloc::{AllocError, Global};
 use std::io::Write;
 use std::net::Net;
 use std::rt::Clock;
+
+const REQUESTS_WERE: Noun = Noun {
+    one: "request was",
+    many: "requests were",
+};
+
+const CONNECTIONS_WERE: Noun = Noun {
+    one: "connection was",
+    many: "connections were",
+};
+
+const CONNECTIONS: Noun = Noun {
+    one: "connection",
+    many: "connections",
+};
 
 /// Logs that a connection was lost, if data was received on it and its end was not.
 fn tell_parted<R: Log>(rt: &R, session: &Session, fate: SessionAction) {
@@ -358,8 +373,9 @@ impl Sessions {
     {
         let count = self.turned_away;
         if let Some(more) = self.of_turned_away.tell(count, moment) {
+            let requests = REQUESTS_WERE.of(more);
             warn!(rt; target: "ipx",
-                "{more} requests were turned away: no free slot ({count} since the start)");
+                "{more} {requests} turned away: no free slot ({count} since the start)");
         }
     }
 
@@ -378,8 +394,9 @@ impl Sessions {
     {
         let count = self.evicted;
         if let Some(more) = self.of_evicted.tell(count, moment) {
+            let connections = CONNECTIONS_WERE.of(more);
             warn!(rt; target: "ipx",
-                "{more} connections were evicted after 10 s of silence, for new requests ({count} since the start)");
+                "{more} {connections} evicted after 10 s of silence, for new requests ({count} since the start)");
         }
     }
 
@@ -419,7 +436,8 @@ impl Sessions {
     {
         let count = self.never_heard;
         if let Some(more) = self.of_never_heard.tell(count, moment) {
-            warn!(rt; target: "ipx", "{more} connections never sent data ({count} since the start)");
+            let connections = CONNECTIONS.of(more);
+            warn!(rt; target: "ipx", "{more} {connections} never sent data ({count} since the start)");
         }
     }
 

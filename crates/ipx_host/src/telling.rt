@@ -4,7 +4,7 @@ ghost use Rattle.std.specs.Prelude.{◌≡◌, replicate};
 ghost use Rattle.ipx_sockets.specs.Moments.{counts_of, AreLoggedIfDue, never_logged};
 ghost use Rattle.ipx_host.specs.HostLines.{counts_of_host};
 
-use ipx_sockets::{FilterDrops, ThrottledLog, Warning, tell_each};
+use ipx_sockets::{FilterDrops, Noun, ThrottledLog, Warning, tell_each};
 use log::Log;
 
 /// How often each problem happened.
@@ -23,6 +23,11 @@ pub struct Counts {
 /// How many kinds of problem a host has.
 const CAUSES: usize = 6;
 
+const REQUESTS: Noun = Noun {
+    one: "request",
+    many: "requests",
+};
+
 /// When each kind was last reported, at most once a minute, in the order of the lines.
 #[derive(Clone, Copy)]
 pub struct Telling {
@@ -34,16 +39,18 @@ fn warnings_in(counts: Counts) -> [Warning; CAUSES]
     ensures { counts_of result ≡ counts_of_host counts }
 {
     let kept = counts.kept;
+    let datagrams = Noun::DATAGRAMS;
     [
-        Warning::from(kept.unknown_senders, "datagrams from unknown senders"),
-        Warning::from(kept.spoofed, "datagrams with a spoofed source node"),
+        Warning::from(kept.unknown_senders, datagrams, "from unknown senders"),
+        Warning::from(kept.spoofed, datagrams, "with a spoofed source node"),
         Warning::from(
             kept.not_a_router,
-            "datagrams routed or RIP/SAP from a host not listed in routers",
+            datagrams,
+            "routed or RIP/SAP from a host not listed in routers",
         ),
-        Warning::of_nobody(counts.rejected, "requests from nodes not in allow"),
-        Warning::of_nobody(counts.system, "datagrams refused by the system"),
-        Warning::of_nobody(counts.memory, "times out of memory"),
+        Warning::of_nobody(counts.rejected, REQUESTS, "from nodes not in allow"),
+        Warning::of_nobody(counts.system, datagrams, "refused by the system"),
+        Warning::of_nobody(counts.memory, Noun::TIMES, "out of memory"),
     ]
 }
 

@@ -1,4 +1,4 @@
--- The last datagrams that a router dropped, for each of five reasons. Defined by this project.
+-- The last datagrams that a router dropped or did not learn whole, for each of six reasons. Defined by this project.
 use Rattle.std.specs.Prelude.{◌≡◌, ◌<◌, ◌≤◌, ℕ, List, length, drop, Option, Some, None, MatchOption}
 use Rattle.ipx_wire.specs.Assigned.{ipx_header_size}
 use Rattle.ipx_wire.specs.Ipx.{IsAddress}
@@ -9,7 +9,14 @@ use Rattle.ipx_metrics.specs.declared.last_drops.LastDrops.{LastDrops}
 
 -- nothing has been dropped
 abbrev pub nothing_dropped : LastDrops
-nothing_dropped = record { bad = None; not_ours = None; no_route = None; hop_limit = None; bad_control = None }
+nothing_dropped = record {
+  bad = None;
+  not_ours = None;
+  no_route = None;
+  hop_limit = None;
+  bad_control = None;
+  table_full = None;
+}
 
 -- the address at an offset of bytes, if these are at least as long as a header; otherwise none
 abbrev pub IsHeadAddress : ℕ → List ℕ → Option Address → Type 0
@@ -36,3 +43,4 @@ pub record AreNoted (before after : OutcomeCounters) (port : ℕ) (bytes : List 
   pub hop_limit : IsNotedIf before.hop_limit after.hop_limit port bytes old.hop_limit new.hop_limit
   pub bad_control :
       IsNotedIf before.bad_control after.bad_control port bytes old.bad_control new.bad_control
+  pub table_full : IsNotedIf before.table_full after.table_full port bytes old.table_full new.table_full

@@ -15,7 +15,7 @@ pub struct LastDrop {
     pub from: Option<Address>,
 }
 
-/// The last datagram that a router dropped for each of five reasons; None if there was none.
+/// The last datagram of each of six reasons that a router counts; None if there was none.
 #[derive(Clone, Copy)]
 pub struct LastDrops {
     pub bad: Option<LastDrop>,
@@ -23,6 +23,8 @@ pub struct LastDrops {
     pub no_route: Option<LastDrop>,
     pub hop_limit: Option<LastDrop>,
     pub bad_control: Option<LastDrop>,
+    /// A response that was not learned whole, since a table was full.
+    pub table_full: Option<LastDrop>,
 }
 
 /// The offset of the destination address in a datagram.
@@ -82,6 +84,7 @@ impl LastDrops {
             no_route: None,
             hop_limit: None,
             bad_control: None,
+            table_full: None,
         }
     }
 
@@ -121,6 +124,13 @@ impl LastDrops {
             &mut self.bad_control,
             before.bad_control,
             after.bad_control,
+            port,
+            bytes,
+        );
+        note_if(
+            &mut self.table_full,
+            before.table_full,
+            after.table_full,
             port,
             bytes,
         );

@@ -1,6 +1,6 @@
 -- A core over a core that limits how often nodes send general and narrow queries, and how many directed
 -- broadcasts leave by its ports. Defined by this project.
-use Rattle.std.specs.Prelude.{◌≡◌, ◌⊎◌, ℕ, true, false, List, Option, Some, slice_get}
+use Rattle.std.specs.Prelude.{◌≡◌, ◌⊎◌, ℕ, true, false, List, Option, None, Some, slice_get}
 use Rattle.ipx_wire.specs.Ipx.{BeginsWith, PacketView}
 use Rattle.ipx_control.specs.declared.rip.packet.RipEntry.{RipEntry}
 use Rattle.ipx_control.specs.Rip.{IsRip}
@@ -12,16 +12,15 @@ use Rattle.ipx_router.specs.declared.classify.PacketClass.TheVariants as classes
 use Rattle.ipx_router.specs.declared.port.Port.{Port}
 use Rattle.ipx_router.specs.Classify.{class_of}
 use Rattle.ipx_router.specs.Replying.{asks_all}
-use Rattle.ipx_carrier.specs.Mapping.{ip_at}
+use Rattle.ipx_carrier.specs.Counting.{raised}
 use Rattle.ipx_carrier.specs.Turns.{Given}
 use Rattle.ipx_rate_limits.specs.declared.directed_broadcast.DirectedBroadcast.{DirectedBroadcast}
 use Rattle.ipx_rate_limits.specs.declared.directed_broadcast.DirectedDrops.{DirectedDrops}
 use Rattle.ipx_rate_limits.specs.declared.querier.Querier.{Querier}
-use Rattle.ipx_sockets.specs.declared.source_filter.DropCount.{DropCount}
+use Rattle.ipx_rate_limits.specs.declared.querier.QueryDrops.{QueryDrops}
 use Rattle.ipx_rate_limits.specs.DirectedBroadcasts.{IsDirectedBroadcast, one_more_directed}
 use Rattle.ipx_rate_limits.specs.PortBuckets.{at_port, directed_has, with_directed_taken}
 use Rattle.ipx_rate_limits.specs.TokenBuckets.{TokenBucketsView, HasNarrowToken, HasToken, with_narrow_token_taken, with_token_taken}
-use Rattle.ipx_sockets.specs.SourceFilter.{one_more}
 
 -- a body asks for all routes
 abbrev pub AsksAllRoutes : List ℕ → Type 0
@@ -78,12 +77,19 @@ abbrev pub IsNarrowQuery : List Port → ℕ → List ℕ → Querier → Type 0
 IsNarrowQuery ports port bytes who =
     (at : Port) × (slice_get ports port ≡ Some at) × AsksNarrowlyAt at port bytes who
 
+-- no query has been dropped; one more was dropped, of this querier
+abbrev pub no_query_drops : QueryDrops
+no_query_drops = record { count = 0; last = None }
+
+abbrev pub one_more_query : QueryDrops → Querier → QueryDrops
+one_more_query drops who = record { count = raised drops.count; last = Some who }
+
 -- the core below, its ports, the tokens, the dropped queries, and the dropped directed broadcasts
 pub record RateLimiterView (C : Type 0) : Type 0 where
   pub core : C
   pub ports : List Port
   pub buckets : TokenBucketsView
-  pub kept : DropCount
+  pub kept : QueryDrops
   pub directed : DirectedDrops
 
 -- the core below repeats its requests to its neighbours
@@ -101,7 +107,7 @@ module _ {C : Type 0} (hears : C → ℕ → List ℕ → ℕ → C → Type 0) 
   abbrev pub CountsFiltered : RateLimiterView C → ℕ → List ℕ → ℕ → RateLimiterView C → Type 0
   CountsFiltered old port bytes now new = (who : Querier) × IsGeneralQuery old.ports port bytes who
       × (HasToken old.buckets who now → ⊥)
-      × (new ≡ record old { kept = one_more old.kept (ip_at who.node) })
+      × (new ≡ record old { kept = one_more_query old.kept who })
 
   -- the core below hears a narrow query of this node, which then has one token less, as has its port
   abbrev pub HearsNarrowWithToken : RateLimiterView C → ℕ → List ℕ → ℕ → RateLimiterView C → Querier → Type 0
@@ -114,7 +120,7 @@ module _ {C : Type 0} (hears : C → ℕ → List ℕ → ℕ → C → Type 0) 
   abbrev pub DropsNarrow : RateLimiterView C → ℕ → List ℕ → ℕ → RateLimiterView C → Type 0
   DropsNarrow old port bytes now new = (who : Querier) × IsNarrowQuery old.ports port bytes who
       × (HasNarrowToken old.buckets who now → ⊥)
-      × (new ≡ record old { kept = one_more old.kept (ip_at who.node) })
+      × (new ≡ record old { kept = one_more_query old.kept who })
 
   -- the core below hears a directed broadcast, and the port by which it leaves then has one token less
   abbrev pub HearsDirected : RateLimiterView C → ℕ → List ℕ → ℕ → RateLimiterView C → DirectedBroadcast → Type 0

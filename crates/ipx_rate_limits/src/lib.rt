@@ -16,7 +16,7 @@ mod token_buckets;
 pub use directed_broadcast::{DirectedBroadcast, DirectedDrops, directed_broadcast_in};
 pub use port_buckets::PortBuckets;
 pub use port_limits::limits_of;
-pub use querier::{Querier, general_query_from};
+pub use querier::{Querier, QueryDrops, general_query_from};
 pub use query_rate::{
     directed_rate_is_bounded, narrow_rate_is_bounded, node_narrow_rate_is_bounded,
     port_query_rate_is_bounded, query_rate_is_bounded,

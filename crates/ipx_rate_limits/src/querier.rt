@@ -3,8 +3,9 @@
 ghost use Rattle.std.specs.Prelude.{◌≡◌, ◌↔◌, IsTrue, IfNone, IfSome};
 ghost use Rattle.ipx_router.specs.Classify.{class_of, class_on_network, is_from_neighbour};
 ghost use Rattle.ipx_router.specs.Replying.{asks_all};
-ghost use Rattle.ipx_rate_limits.specs.RateLimiter.{AsksAllRoutes, AsksAllServices, AsksAt, AsksForAll, AsksNamedRoutes, AsksNarrowly, AsksNarrowlyAt, AsksNearestService, IsGeneralQuery, IsNarrowQuery};
+ghost use Rattle.ipx_rate_limits.specs.RateLimiter.{AsksAllRoutes, AsksAllServices, AsksAt, AsksForAll, AsksNamedRoutes, AsksNarrowly, AsksNarrowlyAt, AsksNearestService, IsGeneralQuery, IsNarrowQuery, no_query_drops, one_more_query};
 
+use ipx_carrier::saturating_increment;
 use ipx_control::{RipBody, RipEntries, SapBody, read_rip, read_sap};
 use ipx_router::Port;
 use ipx_wire::{IpxHeader, Network, Node, Socket, decode, packet_type};
@@ -14,6 +15,32 @@ use ipx_wire::{IpxHeader, Network, Node, Socket, decode, packet_type};
 pub struct Querier {
     pub port: usize,
     pub node: Node,
+}
+
+/// The number of queries that were dropped, and who sent the last one.
+#[derive(Clone, Copy, PartialEq, Eq)]
+pub struct QueryDrops {
+    /// Saturates at the greatest u64.
+    pub count: u64,
+    pub last: Option<Querier>,
+}
+
+impl QueryDrops {
+    pub fn none() -> QueryDrops
+        ensures { result ≡ no_query_drops }
+    {
+        QueryDrops {
+            count: 0,
+            last: None,
+        }
+    }
+
+    pub fn saturating_increment(&mut self, querier: Querier)
+        ensures { self.new ≡ one_more_query self.old querier }
+    {
+        saturating_increment(&mut self.count);
+        self.last = Some(querier);
+    }
 }
 
 /// Whether one of the requested networks is FFFFFFFF, which means all.

@@ -2,17 +2,15 @@
 
 ghost use Rattle.std.specs.Prelude.{◌≡◌, ◌<◌, IfOk, OnErr, OnOk};
 ghost use Rattle.ipx_rate_limits.specs.DirectedBroadcasts.{IsDirectedBroadcast, no_directed_drops};
-ghost use Rattle.ipx_rate_limits.specs.RateLimiter.{HearsBroadcast, HearsNarrow, HearsQuery, IsGeneralQuery, IsNarrowQuery, HearOutOfMemoryBelow};
-ghost use Rattle.ipx_sockets.specs.SourceFilter.{zero_drops};
+ghost use Rattle.ipx_rate_limits.specs.RateLimiter.{HearsBroadcast, HearsNarrow, HearsQuery, IsGeneralQuery, IsNarrowQuery, HearOutOfMemoryBelow, no_query_drops};
 ghost use Rattle.ipx_rate_limits.specs.TokenBuckets.{fresh_buckets};
 
 use crate::directed_broadcast::{DirectedBroadcast, DirectedDrops, directed_broadcast_in};
 use crate::port_buckets::PortBuckets;
-use crate::querier::{Querier, general_query_from, narrow_query_from};
+use crate::querier::{Querier, QueryDrops, general_query_from, narrow_query_from};
 use crate::token_buckets::TokenBuckets;
-use ipx_carrier::{Core, ip_of};
+use ipx_carrier::Core;
 use ipx_router::Port;
-use ipx_sockets::DropCount;
 use ipx_static::RestartDiscovery;
 use ipx_wire::{Node, OutOfMemory};
 use std::alloc::{AllocError, Global};
@@ -34,7 +32,7 @@ pub struct RateLimiter<C: Core + Drop> {
     core: C,
     ports: Vec<Port>,
     buckets: TokenBuckets,
-    kept: DropCount,
+    kept: QueryDrops,
     directed: DirectedDrops,
 }
 
@@ -76,14 +74,14 @@ impl<C: Core + Drop> RateLimiter<C> {
         ensures core { IfOk result (λ s. s.core ≡ core) }
         ensures ports { IfOk result (λ s. s.ports ≡ ports.items) }
         ensures fresh { IfOk result (λ s. (s.buckets ≡ fresh_buckets limits.items)
-            × (s.kept ≡ zero_drops) × (s.directed ≡ no_directed_drops)) }
+            × (s.kept ≡ no_query_drops) × (s.directed ≡ no_directed_drops)) }
     {
         let buckets = TokenBuckets::new(alloc, limits)?;
         Ok(RateLimiter {
             core,
             ports,
             buckets,
-            kept: DropCount::none(),
+            kept: QueryDrops::none(),
             directed: DirectedDrops::none(),
         })
     }
@@ -95,8 +93,8 @@ impl<C: Core + Drop> RateLimiter<C> {
         &self.core
     }
 
-    /// The number of dropped queries, and the IP address of the node that sent the last one.
-    pub fn kept(&self) -> DropCount
+    /// The number of dropped queries, and who sent the last one.
+    pub fn kept(&self) -> QueryDrops
         ensures { result ≡ self.now.kept }
     {
         self.kept
@@ -126,8 +124,7 @@ impl<C: Core + Drop> RateLimiter<C> {
         ensures count { C.port_count self.new.core ≡ C.port_count self.old.core }
     {
         if !self.buckets.has_token(querier, now) {
-            let from = ip_of(querier.node).ok();
-            DropCount::saturating_increment(&mut self.kept, from);
+            QueryDrops::saturating_increment(&mut self.kept, querier);
             return Ok(());
         }
         self.core.hear(alloc, port, bytes, now)?;
@@ -152,8 +149,7 @@ impl<C: Core + Drop> RateLimiter<C> {
         ensures count { C.port_count self.new.core ≡ C.port_count self.old.core }
     {
         if !self.buckets.has_narrow_token(querier, now) {
-            let sender = ip_of(querier.node).ok();
-            DropCount::saturating_increment(&mut self.kept, sender);
+            QueryDrops::saturating_increment(&mut self.kept, querier);
             return Ok(());
         }
         self.core.hear(alloc, port, bytes, now)?;

@@ -20,7 +20,7 @@ use Rattle.ipx_site.specs.declared.route_change_log.RouteChangeLog.{RouteChangeL
 
 -- nothing has been counted
 abbrev pub no_counts : RouterCounts
-no_counts = record { unmapped = 0; device_faults = 0; memory_faults = 0; file_faults = 0 }
+no_counts = record { unmapped = 0; device_faults = 0; memory_faults = 0; file_faults = 0; last_file_fault = None }
 
 -- it ran out of memory once more
 abbrev pub with_memory_fault : RouterCounts → RouterCounts
@@ -44,6 +44,7 @@ pub record AreMetrics {gd : OfDevice.Ghosts (SourceFilter UdpSockets)} {ge : OfS
   -- is a packet that failed a source check
   pub heard : f.heard ≡ counted (outcomes_in core.core.core.core.outcomes)
   pub outcomes : f.outcomes ≡ core.core.core.core.outcomes
+  pub last_table_full : f.last_table_full ≡ core.core.core.core.last.table_full
   pub rate_limited : f.rate_limited ≡ core.core.kept
   pub directed : f.directed ≡ core.core.directed
   pub source_drops : f.source_drops ≡ core.drops
@@ -53,6 +54,8 @@ pub record AreMetrics {gd : OfDevice.Ghosts (SourceFilter UdpSockets)} {ge : OfS
   pub ipxnet_unknown_last : f.ipxnet_unknown_senders.last ≡ ports.servers.sockets.last_unknown
   pub sent_out : f.sent ≡ ports.datagrams.device.device.sent
   pub unmapped : f.unmapped ≡ totals.unmapped
+  pub last_not_sent : f.last_not_sent ≡ ports.datagrams.device.device.last_not_sent
+  pub last_file_fault : f.last_file_fault ≡ totals.last_file_fault
   pub queue : f.queue ≡ length core.core.core.core.queues.forwarded + length core.core.core.core.queues.own
   pub routes : f.routes ≡ length known.networks.items
   pub services : f.services ≡ length known.services.items

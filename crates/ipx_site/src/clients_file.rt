@@ -14,6 +14,7 @@ use ipx_wire::Network;
 use ipxnet_server::{Client, IpxnetServer, Secret};
 use std::alloc::{AllocError, Global};
 use std::cmp::Reverse;
+use std::io;
 use std::rt::Files;
 
 /// How often the clients are compared with those that the file lists, in milliseconds.
@@ -26,7 +27,7 @@ const WRITE_PERIOD: u64 = 60_000;
 pub enum ClientsFileFault {
     OutOfMemory,
     /// The system refused it.
-    File,
+    File(io::Error),
 }
 
 /// A client, and when it was heard last.
@@ -198,7 +199,7 @@ impl ClientsFile {
         };
         match write_private(rt, alloc, path, list.text.as_str()) {
             Ok(Ok(())) => {}
-            Ok(Err(_)) => return Err(ClientsFileFault::File),
+            Ok(Err(error)) => return Err(ClientsFileFault::File(error)),
             Err(_) => return Err(ClientsFileFault::OutOfMemory),
         }
         self.listed = list.clients;

@@ -38,6 +38,7 @@ mod starting;
 mod static_laws;
 mod static_neighbours;
 mod warnings;
+mod written_files;
 
 pub use access_list_metrics::put_access_list_metrics;
 pub use client_log::{ClientChanges, ClientLog, PortClient};
@@ -61,3 +62,4 @@ pub use static_laws::{
     services_of_files_hold, services_of_sites_hold,
 };
 pub use static_neighbours::static_neighbours_of;
+pub use written_files::{FileFault, WrittenFile};

@@ -5,15 +5,18 @@ ghost use Rattle.ipx_site.specs.MetricsText.{families_text, family_lines};
 ghost use Rattle.ipx_site.specs.TotalFamilies.{dropped_family, faults_family, filtered_family, outcomes_family, total_families};
 
 use crate::family::{Family, put_each, put_one};
+use crate::written_files::FileFault;
 use ipx_carrier::OutcomeCounters;
-use ipx_rate_limits::DirectedDrops;
+use ipx_metrics::LastDrop;
+use ipx_rate_limits::{DirectedDrops, QueryDrops};
 use ipx_sockets::{DropCount, FilterDrops};
 use ipx_source_checks::SourceDrops;
 use std::alloc::{AllocError, Global};
+use std::io;
 use std::net::SocketAddrV4;
 
 /// What a router counted since it started.
-#[derive(Clone, Copy, PartialEq, Eq)]
+#[derive(Clone, Copy)]
 pub struct Metrics {
     /// The datagrams that it processed, each of which has an outcome.
     pub heard: u64,
@@ -21,6 +24,8 @@ pub struct Metrics {
     pub sent: u64,
     /// The outcomes of those that it processed.
     pub outcomes: OutcomeCounters,
+    /// The last response that was not learned whole, since a table was full.
+    pub last_table_full: Option<LastDrop>,
     /// The packets that found no room in its queue.
     pub queue_full: u64,
     /// The packets that could not be sent to their node: it has no IP address, or no frame holds
@@ -29,7 +34,7 @@ pub struct Metrics {
     /// The datagrams that were dropped on arrival.
     pub kept: FilterDrops,
     /// The queries that came too often, and were dropped.
-    pub rate_limited: DropCount,
+    pub rate_limited: QueryDrops,
     /// The directed broadcasts over a limit, which were not forwarded.
     pub directed: DirectedDrops,
     /// The packets that failed a source check of the router.
@@ -60,10 +65,15 @@ pub struct Metrics {
     pub other_encapsulation: u64,
     /// How often the system refused to send or to receive a datagram.
     pub device_faults: u64,
+    /// Where the last datagram of an RFC 1234 port was to go that the system refused to send, and
+    /// why it did.
+    pub last_not_sent: Option<(SocketAddrV4, io::Error)>,
     /// How often memory was refused.
     pub memory_faults: u64,
-    /// How often the metrics file could not be written.
+    /// How often a file of the router could not be written.
     pub file_faults: u64,
+    /// The last of these.
+    pub last_file_fault: Option<FileFault>,
     /// The packets that wait to be sent.
     pub queue: u64,
     /// How many networks of others it knows.

@@ -4,6 +4,7 @@ ghost use Rattle.std.specs.Prelude.{◌≡◌, length};
 
 use ipx_config::Escaped;
 use ipx_router::Router;
+use ipx_sockets::Noun;
 use ipx_tables::{Metric, Offers, RouteMetric, ServiceKey, ServiceMetric, Source};
 use ipx_wire::{Network, OutOfMemory};
 use log::{Log, info};
@@ -24,8 +25,8 @@ trait Told: Ord + Copy {
     /// What a neighbour advertises for it.
     type Offered: Metric + Copy;
 
-    /// The plural noun for such keys.
-    const MANY: &'static str;
+    /// The word for such keys.
+    const NOUN: Noun;
 
     /// Logs that it is known, from this source.
     fn tell_known<R: Log>(&self, rt: &R, source: Source, offered: Self::Offered);
@@ -36,7 +37,10 @@ trait Told: Ord + Copy {
 impl Told for Network {
     type Offered = RouteMetric;
 
-    const MANY: &'static str = "networks";
+    const NOUN: Noun = Noun {
+        one: "network",
+        many: "networks",
+    };
 
     fn tell_known<R: Log>(&self, rt: &R, source: Source, offered: RouteMetric) {
         let network = *self;
@@ -57,7 +61,10 @@ impl Told for Network {
 impl Told for ServiceKey {
     type Offered = ServiceMetric;
 
-    const MANY: &'static str = "services";
+    const NOUN: Noun = Noun {
+        one: "service",
+        many: "services",
+    };
 
     fn tell_known<R: Log>(&self, rt: &R, source: Source, offered: ServiceMetric) {
         let kind = self.kind;
@@ -79,10 +86,11 @@ impl Told for ServiceKey {
 }
 
 /// Logs how many more there were than are logged at once.
-fn tell_rest<R: Log>(rt: &R, many: &str, what: &str, count: usize) {
+fn tell_rest<R: Log>(rt: &R, noun: Noun, what: &str, count: usize) {
     if count > MAX_LINES {
         let rest = count - MAX_LINES;
-        info!(rt; target: "ipx", "{rest} more {many} {what}");
+        let noun = noun.of(rest as u64);
+        info!(rt; target: "ipx", "{rest} more {noun} {what}");
     }
 }
 
@@ -97,7 +105,7 @@ fn tell_new<R: Log, K: Told>(rt: &R, known: &[K], held: &[(K, Source, K::Offered
             count = count.saturating_add(1);
         }
     }
-    tell_rest(rt, K::MANY, "added", count);
+    tell_rest(rt, K::NOUN, "added", count);
 }
 
 /// Logs the keys that are no longer known.
@@ -111,7 +119,7 @@ fn tell_gone<R: Log, K: Told>(rt: &R, known: &[K], held: &[(K, Source, K::Offere
             count = count.saturating_add(1);
         }
     }
-    tell_rest(rt, K::MANY, "lost", count);
+    tell_rest(rt, K::NOUN, "lost", count);
 }
 
 /// The keys that a table has now. It logs those that are new and those that are gone.

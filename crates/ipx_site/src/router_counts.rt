@@ -1,6 +1,6 @@
 //! The counters of a running router.
 
-ghost use Rattle.std.specs.Prelude.{◌≡◌};
+ghost use Rattle.std.specs.Prelude.{◌≡◌, Some};
 ghost use Rattle.ipx_carrier.specs.Counting.{counted, raised};
 ghost use Rattle.ipx_carrier.specs.OutcomeCounters.{outcomes_in};
 ghost use Rattle.ipx_site.specs.IdleTime.{happened, happened_in, lost_in};
@@ -11,6 +11,7 @@ use crate::ipxnet_totals::{busy, full, full_of_address, last_limited, rate_limit
 use crate::metrics::Metrics;
 use crate::route_change_log::RouteChangeLog;
 use crate::router_ports::UdpRouterPorts;
+use crate::written_files::FileFault;
 use ipx_carrier::{Batch, OutcomeCounters, RunFault, saturating_increment};
 use ipx_ethernet_ports::EndSockets;
 use ipx_ipxnet_ports::PlaceSockets;
@@ -27,6 +28,8 @@ pub struct RouterCounts {
     pub device_faults: u64,
     pub memory_faults: u64,
     pub file_faults: u64,
+    /// The last of these.
+    pub last_file_fault: Option<FileFault>,
 }
 
 /// How many datagrams were processed: each has one outcome.
@@ -72,6 +75,7 @@ impl RouterCounts {
             device_faults: 0,
             memory_faults: 0,
             file_faults: 0,
+            last_file_fault: None,
         }
     }
 
@@ -93,10 +97,14 @@ impl RouterCounts {
         saturating_increment(&mut self.memory_faults);
     }
 
-    pub fn fail_file(&mut self)
-        ensures { self.new ≡ record self.old { file_faults = raised self.old.file_faults } }
+    pub fn fail_file(&mut self, fault: FileFault)
+        ensures { self.new ≡ record self.old {
+          file_faults = raised self.old.file_faults;
+          last_file_fault = Some fault;
+        } }
     {
         saturating_increment(&mut self.file_faults);
+        self.last_file_fault = Some(fault);
     }
 
     /// All metrics of a router, at `now`, in milliseconds since its start.
@@ -118,6 +126,7 @@ impl RouterCounts {
             heard: heard_in(&outcomes),
             sent: device.device().sent(),
             outcomes,
+            last_table_full: core.core().core().core().last().table_full,
             queue_full: core.core().core().core().dropped(),
             unmapped: self.unmapped,
             kept: device.kept(),
@@ -137,8 +146,10 @@ impl RouterCounts {
             unframed: unframed(switches),
             other_encapsulation: in_other_encapsulations(switches),
             device_faults: self.device_faults.saturating_add(faults_of(ports)),
+            last_not_sent: device.device().last_not_sent(),
             memory_faults: self.memory_faults,
             file_faults: self.file_faults,
+            last_file_fault: self.last_file_fault,
             queue: core.core().core().core().queued() as u64,
             routes: known.networks() as u64,
             services: known.services() as u64,

@@ -31,8 +31,8 @@ use crate::route_change_log::RouteChangeLog;
 use crate::router_counts::RouterCounts;
 use crate::router_ports::UdpRouterPorts;
 use crate::warnings::Warnings;
+use crate::written_files::{FileFault, WrittenFile, write_whole};
 use ipx_carrier::{Batch, Clock, run_batch};
-use ipx_config::write_whole;
 use ipx_metrics::MeteredRouter;
 use ipx_rate_limits::RateLimiter;
 use ipx_sockets::{LONGEST, Poller, SteadyClock, WaitFault, end_of, is_over, sooner, time_to};
@@ -253,8 +253,9 @@ impl<'a, R: SystemClock> RunningRouter<'a, R> {
             self.totals.count_out_of_memory();
             return;
         };
-        if !write_whole(rt, alloc, path.as_str(), text.as_str()) {
-            self.totals.fail_file();
+        if let Err(error) = write_whole(rt, alloc, path.as_str(), text.as_str()) {
+            let file = WrittenFile::Tables;
+            self.totals.fail_file(FileFault { file, error });
         }
     }
 
@@ -280,8 +281,9 @@ impl<'a, R: SystemClock> RunningRouter<'a, R> {
             self.totals.count_out_of_memory();
             return;
         };
-        if !write_whole(rt, alloc, path.as_str(), text.as_str()) {
-            self.totals.fail_file();
+        if let Err(error) = write_whole(rt, alloc, path.as_str(), text.as_str()) {
+            let file = WrittenFile::Metrics;
+            self.totals.fail_file(FileFault { file, error });
         }
     }
 
@@ -298,7 +300,10 @@ impl<'a, R: SystemClock> RunningRouter<'a, R> {
         match self.clients_file.keep(rt, alloc, &self.ports, now) {
             Ok(()) => {}
             Err(ClientsFileFault::OutOfMemory) => self.totals.count_out_of_memory(),
-            Err(ClientsFileFault::File) => self.totals.fail_file(),
+            Err(ClientsFileFault::File(error)) => {
+                let file = WrittenFile::Secret;
+                self.totals.fail_file(FileFault { file, error });
+            }
         }
     }
 

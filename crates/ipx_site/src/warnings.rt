@@ -5,10 +5,14 @@ ghost use Rattle.ipx_site.specs.IdleTime.{IsLineDue, counts_to_log, happened_in}
 ghost use Rattle.ipx_sockets.specs.Moments.{counts_of, AreLoggedIfDue, IsDue, IsReached, never_logged};
 
 use crate::metrics::Metrics;
-use ipx_rate_limits::DirectedDrops;
-use ipx_sockets::{FilterDrops, LastTime, ThrottledLog, Warning, next_of, tell_each};
-use ipx_wire::Address;
+use crate::written_files::FileFault;
+use ipx_carrier::ip_of;
+use ipx_metrics::LastDrop;
+use ipx_rate_limits::{DirectedDrops, Querier, QueryDrops};
+use ipx_sockets::{FilterDrops, LastTime, Noun, ThrottledLog, Warning, next_of, tell_each};
 use log::Log;
+use std::io;
+use std::net::SocketAddrV4;
 
 /// The number of warnings of a router.
 const CAUSES: usize = 19;
@@ -22,12 +26,68 @@ pub struct Warnings {
     causes: [ThrottledLog; CAUSES],
 }
 
+const DIRECTED: Noun = Noun {
+    one: "directed broadcast",
+    many: "directed broadcasts",
+};
+
+const BROADCASTS: Noun = Noun {
+    one: "broadcast",
+    many: "broadcasts",
+};
+
+const RESPONSES: Noun = Noun {
+    one: "response",
+    many: "responses",
+};
+
+const FRAMES: Noun = Noun {
+    one: "frame",
+    many: "frames",
+};
+
+const WRITES: Noun = Noun {
+    one: "failed write",
+    many: "failed writes",
+};
+
 /// The warning about directed broadcasts over a limit.
 fn directed_warning(drops: DirectedDrops) -> Warning
     ensures { result.kept.count ≡ drops.count }
 {
-    let warning = Warning::of_nobody(drops.count, "directed broadcasts dropped");
+    let warning = Warning::of_nobody(drops.count, DIRECTED, "dropped");
     warning.with_last(drops.last.map(LastTime::Address))
+}
+
+/// Who sent a query, by IP address if its node is one, and by which port.
+fn querier(last: Querier) -> LastTime {
+    match ip_of(last.node) {
+        Ok(ip) => LastTime::IpAtPort(ip, last.port),
+        Err(_) => LastTime::NodeAtPort(last.node, last.port),
+    }
+}
+
+/// The warning about queries that came too often.
+fn query_warning(drops: QueryDrops) -> Warning
+    ensures { result.kept.count ≡ drops.count }
+{
+    let warning = Warning::of_nobody(drops.count, Noun::QUERIES, "rate-limited");
+    warning.with_last(drops.last.map(querier))
+}
+
+/// Who sent a response that was not learned whole.
+fn responder(last: LastDrop) -> Option<LastTime> {
+    let from = last.from?;
+    Some(LastTime::AddressAtPort(from, last.port))
+}
+
+/// The warning about responses that were not learned whole.
+fn table_warning(f: &Metrics) -> Warning
+    ensures { result.kept.count ≡ f.now.outcomes.table_full }
+{
+    let what = "not fully learned: table full";
+    let warning = Warning::of_nobody(f.outcomes.table_full, RESPONSES, what);
+    warning.with_last(f.last_table_full.and_then(responder))
 }
 
 /// The warning about what only routers may send.
@@ -36,7 +96,8 @@ fn router_warning(kept: FilterDrops) -> Warning
 {
     let warning = Warning::from(
         kept.not_a_router,
-        "datagrams routed or RIP/SAP from a host not listed in routers",
+        Noun::DATAGRAMS,
+        "routed or RIP/SAP from a host not listed in routers",
     );
     warning.with_last(kept.mismatch.map(LastTime::Mismatch))
 }
@@ -45,8 +106,38 @@ fn router_warning(kept: FilterDrops) -> Warning
 fn refused_warning(f: &Metrics) -> Warning
     ensures { result.kept.count ≡ f.now.refused }
 {
-    let warning = Warning::of_nobody(f.refused, "datagrams not sent: destination not a peer");
+    let what = "not sent: destination not a peer";
+    let warning = Warning::of_nobody(f.refused, Noun::DATAGRAMS, what);
     warning.with_last(f.last_refused.map(LastTime::Destination))
+}
+
+/// Where a datagram was to go that the system did not send, and why.
+fn unsent(last: (SocketAddrV4, io::Error)) -> LastTime {
+    let (to, error) = last;
+    LastTime::NotSent(to, error)
+}
+
+/// The warning about datagrams that the system refused.
+fn system_warning(f: &Metrics) -> Warning
+    ensures { result.kept.count ≡ f.now.device_faults }
+{
+    let what = "refused by the system";
+    let warning = Warning::of_nobody(f.device_faults, Noun::DATAGRAMS, what);
+    warning.with_last(f.last_not_sent.map(unsent))
+}
+
+/// What the system did not write, and why.
+fn unwritten(fault: FileFault) -> LastTime {
+    LastTime::NotWritten(fault.file.key(), fault.error)
+}
+
+/// The warning about files that could not be written.
+fn file_warning(f: &Metrics) -> Warning
+    ensures { result.kept.count ≡ f.now.file_faults }
+{
+    let what = "of metrics_file, tables_file or secret_file";
+    let warning = Warning::of_nobody(f.file_faults, WRITES, what);
+    warning.with_last(f.last_file_fault.map(unwritten))
 }
 
 /// The warning about frames from none of the remotes of their port.
@@ -55,7 +146,8 @@ fn frame_warning(f: &Metrics) -> Warning
 {
     let warning = Warning::of_nobody(
         f.frame_unknown_senders,
-        "datagrams to an Ethernet port from unknown senders",
+        Noun::DATAGRAMS,
+        "to an Ethernet port from unknown senders",
     );
     warning.with_last(f.frame_last_unknown.map(LastTime::Place))
 }
@@ -66,7 +158,8 @@ fn flood_warning(f: &Metrics) -> Warning
 {
     let warning = Warning::of_nobody(
         f.ipxnet_rate_limited,
-        "broadcasts of players dropped: more than 128 a second of one",
+        BROADCASTS,
+        "of players dropped: more than 128 a second of one",
     );
     warning.with_last(f.ipxnet_last_limited.map(LastTime::Place))
 }
@@ -75,43 +168,43 @@ fn flood_warning(f: &Metrics) -> Warning
 fn warnings_in(f: &Metrics) -> [Warning; CAUSES]
     ensures { counts_of result ≡ counts_to_log (happened_in f.now) }
 {
+    let datagrams = Noun::DATAGRAMS;
+    let packets = Noun::PACKETS;
     [
-        Warning::from(f.kept.unknown_senders, "datagrams from unknown senders"),
-        Warning::from(f.kept.spoofed, "datagrams with a spoofed source node"),
+        Warning::from(f.kept.unknown_senders, datagrams, "from unknown senders"),
+        Warning::from(f.kept.spoofed, datagrams, "with a spoofed source node"),
         router_warning(f.kept),
-        Warning::from(f.rate_limited, "queries rate-limited"),
+        query_warning(f.rate_limited),
         refused_warning(f),
-        Warning::of_nobody(
-            f.outcomes.table_full,
-            "responses not fully learned: table full",
-        ),
-        Warning::of_nobody(f.queue_full, "packets dropped: send queue full"),
-        Warning::of_nobody(f.device_faults, "datagrams refused by the system"),
-        Warning::of_nobody(f.memory_faults, "times out of memory"),
-        Warning::of_nobody(
-            f.file_faults,
-            "failed writes of metrics_file, tables_file or secret_file",
-        ),
+        table_warning(f),
+        Warning::of_nobody(f.queue_full, packets, "dropped: send queue full"),
+        system_warning(f),
+        Warning::of_nobody(f.memory_faults, Noun::TIMES, "out of memory"),
+        file_warning(f),
         frame_warning(f),
-        Warning::of_nobody(f.unframed, "packets that do not fit into a frame"),
-        Warning::of_nobody(f.other_encapsulation, "frames of another encapsulation"),
+        Warning::of_nobody(f.unframed, packets, "too long for a frame"),
+        Warning::of_nobody(f.other_encapsulation, FRAMES, "of another encapsulation"),
         directed_warning(f.directed),
         Warning::from(
             f.ipxnet_unknown_senders,
-            "datagrams to a port for ipxnet from unknown senders",
+            datagrams,
+            "to a port for ipxnet from unknown senders",
         ),
         Warning::of_nobody(
             f.ipxnet_full,
-            "datagrams of new players dropped: all places of their port are taken",
+            datagrams,
+            "of new players dropped: all places of their port are taken",
         ),
         Warning::of_nobody(
             f.ipxnet_full_of_address,
-            "datagrams of new players dropped: all places of their IP address are taken",
+            datagrams,
+            "of new players dropped: all places of their IP address are taken",
         ),
         flood_warning(f),
         Warning::of_nobody(
             f.ipxnet_busy,
-            "broadcasts dropped: more than 100000 copies a second at a port for ipxnet",
+            BROADCASTS,
+            "dropped: more than 100000 copies a second at a port for ipxnet",
         ),
     ]
 }

@@ -1,7 +1,7 @@
 //! The metrics in the Prometheus text format.
 
 use ipx_carrier::OutcomeCounters;
-use ipx_rate_limits::DirectedDrops;
+use ipx_rate_limits::{DirectedDrops, QueryDrops};
 use ipx_site::Metrics;
 use ipx_sockets::{DropCount, FilterDrops};
 use ipx_source_checks::{SourceDropCount, SourceDrops};
@@ -23,6 +23,7 @@ pub const METRICS: Metrics = Metrics {
         bad_control: 11,
         table_full: 12,
     },
+    last_table_full: None,
     queue_full: 13,
     unmapped: 14,
     kept: FilterDrops {
@@ -40,7 +41,7 @@ pub const METRICS: Metrics = Metrics {
         },
         mismatch: None,
     },
-    rate_limited: DropCount {
+    rate_limited: QueryDrops {
         count: 25,
         last: None,
     },
@@ -81,8 +82,10 @@ pub const METRICS: Metrics = Metrics {
     unframed: 27,
     other_encapsulation: 28,
     device_faults: 17,
+    last_not_sent: None,
     memory_faults: 18,
     file_faults: 19,
+    last_file_fault: None,
     queue: 29,
     routes: 20,
     services: 21,

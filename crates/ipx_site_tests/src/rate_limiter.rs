@@ -1,9 +1,8 @@
 //! General queries, how often those of each querier pass, narrow queries, and directed broadcasts.
 
 use ipx_carrier::Core;
-use ipx_rate_limits::{PortBuckets, RateLimiter};
+use ipx_rate_limits::{PortBuckets, Querier, QueryDrops, RateLimiter};
 use ipx_router::Port;
-use ipx_sockets::DropCount;
 use ipx_wire::{
     Address, IpxHeader, Network, Node, OutOfMemory, Packet, Socket, encode_into, packet_type,
 };
@@ -215,8 +214,19 @@ fn ask(ears: &mut RateLimiter<Ears>, alloc: Global, last: u8, count: u32, now: u
     }
 }
 
-fn kept(count: u64, last: Option<[u8; 4]>) -> DropCount {
-    DropCount { count, last }
+/// So many dropped queries, the last of the node with this IP address at the first port.
+fn kept(count: u64, last: Option<[u8; 4]>) -> QueryDrops {
+    let Some([a, b, c, d]) = last else {
+        return QueryDrops { count, last: None };
+    };
+    let querier = Querier {
+        port: 0,
+        node: Node([0, 0, a, b, c, d]),
+    };
+    QueryDrops {
+        count,
+        last: Some(querier),
+    }
 }
 
 #[test]
@@ -224,7 +234,7 @@ fn eight_of_a_thousand(rt: HostRuntime) -> Result<(), AllocError> {
     let mut ears = ears(rt.alloc(), 0)?;
     ask(&mut ears, rt.alloc(), 2, 1000, 5000);
     assert_eq!(rt; ears.core().heard, 8);
-    assert_eq!(rt; ears.kept(), kept(992, Some([10, 0, 0, 2])));
+    assert!(rt; ears.kept() == kept(992, Some([10, 0, 0, 2])));
     ask(&mut ears, rt.alloc(), 2, 1, 5999);
     assert_eq!(rt; ears.core().heard, 8);
     ask(&mut ears, rt.alloc(), 2, 2, 6000);
@@ -241,7 +251,7 @@ fn sixteen_of_seventeen_askers(rt: HostRuntime) -> Result<(), AllocError> {
         ask(&mut ears, rt.alloc(), last, 1, 0);
     }
     assert_eq!(rt; ears.core().heard, 16);
-    assert_eq!(rt; ears.kept(), kept(1, Some([10, 0, 0, 18])));
+    assert!(rt; ears.kept() == kept(1, Some([10, 0, 0, 18])));
     ask(&mut ears, rt.alloc(), 18, 1, 124);
     assert_eq!(rt; ears.core().heard, 16);
     ask(&mut ears, rt.alloc(), 18, 1, 125);
@@ -300,7 +310,7 @@ fn narrow_queries_have_their_own_tokens(rt: HostRuntime) -> Result<(), AllocErro
     let mut ears = ears(rt.alloc(), 0)?;
     ask_nearest(&mut ears, rt.alloc(), (0, HERE, 2), 33, 0);
     assert_eq!(rt; ears.core().heard, 32);
-    assert_eq!(rt; ears.kept(), kept(1, Some([10, 0, 0, 2])));
+    assert!(rt; ears.kept() == kept(1, Some([10, 0, 0, 2])));
     ask(&mut ears, rt.alloc(), 2, 9, 0);
     assert_eq!(rt; ears.core().heard, 40);
     ask_nearest(&mut ears, rt.alloc(), (0, HERE, 2), 100, 499);
@@ -326,7 +336,7 @@ fn requests_for_named_networks_take_the_same_tokens(rt: HostRuntime) -> Result<(
         let _had = hear_at(&mut ears, rt.alloc(), (0, HERE, 2), rip, &ONE_ROUTE, 0);
     }
     assert_eq!(rt; ears.core().heard, 32);
-    assert_eq!(rt; ears.kept(), kept(13, Some([10, 0, 0, 2])));
+    assert!(rt; ears.kept() == kept(13, Some([10, 0, 0, 2])));
     // A request for all networks has tokens of its own, and a response takes none.
     let _all = hear_at(&mut ears, rt.alloc(), (0, HERE, 2), rip, &ALL_ROUTES, 0);
     let _told = hear_at(&mut ears, rt.alloc(), (0, HERE, 2), rip, &TOLD_ROUTES, 0);
@@ -422,7 +432,7 @@ fn few_directed_broadcasts_leave_by_a_port(rt: HostRuntime) -> Result<(), AllocE
     assert_eq!(rt; ears.core().heard, 40);
     ask_each(&mut ears, rt.alloc(), (1, AWAY), 16, 6000);
     assert_eq!(rt; ears.core().heard, 56);
-    assert_eq!(rt; ears.kept(), kept(0, None));
+    assert!(rt; ears.kept() == kept(0, None));
     Ok(())
 }
 
@@ -540,7 +550,7 @@ fn no_turn_where_memory_is_refused(rt: HostRuntime) -> Result<(), AllocError> {
             )
         );
     }
-    assert_eq!(rt; ears.kept(), kept(0, None));
+    assert!(rt; ears.kept() == kept(0, None));
     ask(&mut ears, rt.alloc(), 2, 9, 0);
     assert_eq!(rt; ears.core().heard, 8);
     Ok(())

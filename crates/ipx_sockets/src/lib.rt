@@ -31,4 +31,4 @@ pub use sockets::UdpSockets;
 pub use source_check::NetworkMismatch;
 pub use source_filter::{AccessList, DropCount, FilterDrops, SourceFilter, Verdict};
 pub use throttled_log::ThrottledLog;
-pub use warning::{LastTime, Warning, next_of, tell_each};
+pub use warning::{LastTime, Noun, Warning, next_of, tell_each};

@@ -21,7 +21,7 @@ use ipx_ipxnet_ports::ip_of_sender;
 use std::alloc::{AllocError, Global};
 use std::io;
 use std::io::ErrorKind;
-use std::net::Net;
+use std::net::{Net, SocketAddrV4};
 use std::os::fd::{AsRawFd, RawFd};
 
 /// The socket of a port, the UDP port of its peers, and the size of its receive buffer in bytes.
@@ -47,6 +47,7 @@ pub struct UdpSockets {
     marks: ReadySet,
     sent: u64,
     faults: u64,
+    last_not_sent: Option<(SocketAddrV4, io::Error)>,
     sender: Option<[u8; 4]>,
 }
 
@@ -98,6 +99,7 @@ fn device_of(alloc: Global, sockets: Vec<PortSocket>) -> Result<UdpSockets, Allo
         marks,
         sent: 0,
         faults: 0,
+        last_not_sent: None,
         sender: None,
     })
 }
@@ -175,6 +177,13 @@ impl UdpSockets {
         ensures { result ≡ self.now.faults }
     {
         self.faults
+    }
+
+    /// Where the last datagram was to go that the system refused to send, and why it did.
+    pub fn last_not_sent(&self) -> Option<(SocketAddrV4, io::Error)>
+        ensures { result ≡ self.now.last_not_sent }
+    {
+        self.last_not_sent
     }
 
     /// The descriptor of a port's socket, to wait for it. Ports count from 0.
@@ -281,7 +290,10 @@ impl Datagrams for UdpSockets {
         let place = socket_addr(to, self.sockets[port].udp_port);
         match self.sockets[port].socket.send_to(place, bytes) {
             Ok(()) => saturating_increment(&mut self.sent),
-            Err(_) => self.count_fault(),
+            Err(error) => {
+                self.last_not_sent = Some((place, error));
+                self.count_fault();
+            }
         }
         Ok(())
     }

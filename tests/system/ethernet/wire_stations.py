@@ -278,7 +278,7 @@ def check_told(it, strangers):
                    f"(found, wanted): {wrong}" if wrong else f"{len(wanted)} figures")
     groups = re.compile("RIP or SAP with a group or zero source node, the last from ")
     ip, udp_port = it.stranger.socket.getsockname()
-    unknown = re.compile(r"\d datagrams to an Ethernet port from unknown senders \(\d+ since the start\), the last from "
+    unknown = re.compile(r"\d datagrams? to an Ethernet port from unknown senders \(\d+ since the start\), the last from "
                          + f"({re.escape(ip)}|{re.escape(HOST)}):{udp_port}$")
     for what, words in (("who has a group for its source", groups), ("from where strangers send", unknown)):
         told = until(lambda words=words: any(words.search(line) for line in it.router.process.said()), 15)

@@ -9,8 +9,8 @@ NETWORK = NETWORKS[0]
 # So many clients of one IP address there may be.
 OF_ADDRESS = 16
 # The first line of each cause. The next one comes a minute later, longer than any of this takes.
-PORT_FULL = "[WARN  ipx] 1 datagrams of new players dropped: all places of their port are taken (1 since the start)"
-ADDRESS_FULL = "[WARN  ipx] 1 datagrams of new players dropped: all places of their IP address are taken (1 since the start)"
+PORT_FULL = "[WARN  ipx] 1 datagram of new players dropped: all places of their port are taken (1 since the start)"
+ADDRESS_FULL = "[WARN  ipx] 1 datagram of new players dropped: all places of their IP address are taken (1 since the start)"
 CLIENTS = 'ipx_ipxnet_clients{port="1"}'
 
 

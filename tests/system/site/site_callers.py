@@ -22,7 +22,7 @@ CALLING = [address for pair in [*FROM.values(), ONCE] for address in pair] + [SE
 # one is not answered, but the next one is, half a second later. Times are without those for which the machine denied the
 # listener a processor.
 HELD, SOON = 1.5, 2.5
-BARRED = r"\[WARN  ipx\] \d+ requests from nodes not in allow \(\d+ since the start\)"
+BARRED = r"\[WARN  ipx\] \d+ requests? from nodes not in allow \(\d+ since the start\)"
 
 
 def start_from(sites):

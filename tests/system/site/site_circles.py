@@ -14,7 +14,7 @@ NAMES, NOBODY, ANY = "127.0.1.160", "127.0.1.161", "127.0.1.162"
 PEER, STRANGER, SENDERS = "127.0.1.163", "127.0.1.164", ["127.0.1.165", "127.0.1.166", "127.0.1.167"]
 CIRCLES = [NAMES, NOBODY, ANY, PEER, STRANGER, *SENDERS]
 WAITING, CALLS = 100, 100
-TOLD = r"\[WARN  ipx\] (\d+) datagrams {} \((\d+) since the start\), the last from {}"
+TOLD = r"\[WARN  ipx\] (\d+) datagrams? {} \((\d+) since the start\), the last from {}"
 STRANGERS, FORGED, NO_ROUTER = "from unknown senders", "with a spoofed source node", "routed or RIP/SAP from a host not listed in routers"
 
 

@@ -113,7 +113,7 @@ def check_drops(sites, sent):
     got, wanted = told(sites), [*lines_of(0, FIRST, FIRST), *lines_of(1, MORE, FIRST + MORE)]
     sites.check("a router tells what it dropped last for each reason, once a minute", got == wanted,
                 f"{len(got)} lines" if got == wanted else str(got))
-    line = re.compile(r"\[WARN  ipx\] \d+ datagrams not sent: destination not a peer \(\d+ since the start\), the last to " + re.escape(STRANGER))
+    line = re.compile(r"\[WARN  ipx\] \d+ datagrams? not sent: destination not a peer \(\d+ since the start\), the last to " + re.escape(STRANGER))
     found = any(line.fullmatch(it) for it in sites.routers[NAME].said())
     sites.check("and for whom it sent nothing", found, "" if found else str(sites.routers[NAME].said()[-3:]))
     (network, _, peer), usual = USUAL_PORT, told(sites, USUAL)

@@ -150,7 +150,7 @@ def check_forged_figures(sites, figures):
     # Two routes, one request, and the bursts.
     sent, got = 3 + WAITING + FAST, figures["f1"].get(count, 0)
     sites.check("what was forged is counted, each once", got == sent, f"{got} of {sent}")
-    line = re.compile(r"\[WARN  ipx\] \d+ datagrams with a spoofed source node \(\d+ since the start\), the last from "
+    line = re.compile(r"\[WARN  ipx\] \d+ datagrams? with a spoofed source node \(\d+ since the start\), the last from "
                       + re.escape(FORGER))
     said = sites.routers["f1"].said()
     told = any(line.fullmatch(it) for it in said)

@@ -31,7 +31,7 @@ MANY, PLACES, RUNS = 100, 16, 6
 LATE = 5
 # A place of one that never speaks goes after some six seconds.
 SECONDS_OF_A_PLACE = 5
-NEVER_SPOKE = r"\[WARN  ipx\] \d+ connections never sent data \((\d+) since the start\).*"
+NEVER_SPOKE = r"\[WARN  ipx\] \d+ connections? never sent data \((\d+) since the start\).*"
 TIME = r"\d+\.\d ms"
 
 

@@ -74,8 +74,8 @@ CROWDING, CROWD = 3, 200
 TIMES, PAUSE, STAYS = 4, 2, (2.5, 4)
 # How many bytes of the slow output are read each second, for how many seconds, and the least share of each sender.
 RATE, SECONDS, SHARE = 1_000_000, 6, 1 / 3
-AWAY = r"\[WARN  ipx\] \d+ requests were turned away: no free slot \((\d+) since the start\)"
-EVICTED = r"\[WARN  ipx\] 1 connections were evicted after 10 s of silence, for new requests \(1 since the start\)"
+AWAY = r"\[WARN  ipx\] \d+ (?:request was|requests were) turned away: no free slot \((\d+) since the start\)"
+EVICTED = r"\[WARN  ipx\] 1 connection was evicted after 10 s of silence, for new requests \(1 since the start\)"
 
 
 class Ending:

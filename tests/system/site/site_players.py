@@ -178,7 +178,7 @@ def check_players(sites, clients):
     sites.check("what speaks in another's name goes nowhere, nor what is of nobody", got == [[], [], [], []], str(got))
     check_again(sites, second)
     check_lines(sites, {"p1": [first, second], "p2": [third]})
-    line = re.compile(r"\[WARN  ipx\] \d+ datagrams to a port for ipxnet from unknown senders \(\d+ since the start\), the last from "
+    line = re.compile(r"\[WARN  ipx\] \d+ datagrams? to a port for ipxnet from unknown senders \(\d+ since the start\), the last from "
                       + re.escape(unnamed.ip))
     told = until(lambda: any(line.fullmatch(it) for it in sites.routers["p1"].said()), 12)
     sites.check("p1 tells which address is not in peers", told, "" if told else str(sites.routers["p1"].said()[-3:]))

@@ -106,8 +106,8 @@ def check_query_figures(sites, figures, seconds):
     sites.check("what came too often is counted", asked - 9 - seconds <= got <= asked - 8, f"{got} of {asked}")
     full = figures["q1"].get('ipx_dropped_total{reason="queue_full"}')
     sites.check("and no packet found no room to wait", full == 0, str(full))
-    line = re.compile(r"\[WARN  ipx\] \d+ queries rate-limited \(\d+ since the start\), the last from "
-                      + re.escape(ASKER))
+    line = re.compile(r"\[WARN  ipx\] \d+ (?:query|queries) rate-limited \(\d+ since the start\), the last from "
+                      + re.escape(ASKER) + r" on port \d")
     said = sites.routers["q1"].said()
     told = any(line.fullmatch(it) for it in said)
     sites.check("and it is told", told, "" if told else str(said[-3:]))
@@ -263,7 +263,7 @@ def check_limits(sites):
     reason = 'ipx_filtered_total{reason="directed_broadcast"}'
     counted = until(lambda: sites.world.figures(metrics).get(reason) == dropped, 15)
     sites.check("the others are counted", counted, f"{sites.world.figures(metrics).get(reason)} of {dropped}")
-    line = re.compile(r"\[WARN  ipx\] \d+ directed broadcasts dropped \(\d+ since the start\), the last from "
+    line = re.compile(r"\[WARN  ipx\] \d+ directed broadcasts? dropped \(\d+ since the start\), the last from "
                       + f"{AFAR_NETWORK} {node(AFAR)} 4003")
     said = sites.routers[LIMITED].said()
     told = any(line.fullmatch(it) for it in said)

@@ -17,7 +17,7 @@ EVERY_NODE = "f" * 12
 KEPT = 7
 WRONG = "00000068"
 # The line of the first of these.
-TOLD = re.compile(r"\[WARN  ipx\] 1 datagrams routed or RIP/SAP from a host not listed in routers \(1 since the start\), the last from "
+TOLD = re.compile(r"\[WARN  ipx\] 1 datagram routed or RIP/SAP from a host not listed in routers \(1 since the start\), the last from "
                   + re.escape(f"{HOST} (sender uses network {WRONG}, this port has 00000061)"))
 
 

@@ -18,7 +18,7 @@ MUCH_KNOWN = [("00000075", 0, 0, "-"), ("00000076", 0, 0, "-")] + [(f"{0x1000 + 
 MUCH_OFFERED = [("0004", f"S{number:04}", "00000099", 1, TELLER) for number in range(4096)]
 # A router whose file of tables is to lie in a folder that is not there, and what it says of that, once a minute.
 UNWRITTEN, ITS_ADDRESS = "u1", "127.0.1.185"
-FAULT = "[WARN  ipx] 1 failed writes of metrics_file, tables_file or secret_file (1 since the start)"
+FAULT = "[WARN  ipx] 1 failed write of metrics_file, tables_file or secret_file (1 since the start), the last of tables_file: No such file or directory (os error 2)"
 OLD = r"{}: tables_file is (\d+) seconds old: is the router running\?"
 NO_TABLES = "{}: tables_file is missing: {} reads what the router writes there"
 HALF = "{}: not a complete tables file of a router"
@@ -99,7 +99,7 @@ def check_unwritten(sites):
     """It goes on and tries again, and says so once a minute; once the folder is there, it writes."""
     router = sites.routers[UNWRITTEN]
     until(lambda: faults_of(sites) >= 2, 25)
-    said, minutes = [it for it in router.said() if "failed writes" in it], (time.monotonic() - router.started) / 60
+    said, minutes = [it for it in router.said() if "failed write" in it], (time.monotonic() - router.started) / 60
     good = faults_of(sites) >= 2 and said[:1] == [FAULT] and len(said) <= 1 + minutes and not router.is_over()
     sites.check("a router whose file of tables cannot be written goes on, and says so once a minute", good, str(said))
     folder = sites.world.path("gone")

@@ -1,0 +1,43 @@
+//! Files that a running router writes, and the last one that it could not write.
+
+use ipx_config::TEMPORARY;
+use std::alloc::Global;
+use std::io::ErrorKind;
+use std::rt::Files;
+use std::{fs, io};
+
+/// A file that a running router writes.
+#[derive(Clone, Copy, PartialEq, Eq)]
+pub enum WrittenFile {
+    Metrics,
+    Tables,
+    Secret,
+}
+
+/// A file that could not be written, and the system's error.
+#[derive(Clone, Copy)]
+pub struct FileFault {
+    pub file: WrittenFile,
+    pub error: io::Error,
+}
+
+impl WrittenFile {
+    /// The key that names the file in the router's own file.
+    pub fn key(&self) -> &'static str {
+        match self {
+            WrittenFile::Metrics => "metrics_file",
+            WrittenFile::Tables => "tables_file",
+            WrittenFile::Secret => "secret_file",
+        }
+    }
+}
+
+/// Writes a text to a temporary file and renames it, so that no reader ever sees half of the file.
+/// The error is the system's, or that memory ran out.
+pub fn write_whole<R: Files>(rt: &R, alloc: Global, path: &str, text: &str) -> io::Result<()> {
+    let Ok(beside) = format!(in alloc; "{path}{TEMPORARY}") else {
+        return Err(io::Error::from(ErrorKind::OutOfMemory));
+    };
+    fs::write(rt, beside.as_str(), text)?;
+    fs::rename(rt, beside.as_str(), path)
+}
