@@ -8,8 +8,10 @@ use Rattle.std.proofs.lemmas.List.Elements.{filter-append}
 use Rattle.ipx_ethernet.specs.declared.egress.Egress.{Egress}
 use Rattle.ipx_ethernet.specs.SwitchEnds.{is_way_to}
 use Rattle.ipx_carrier.specs.Counting.{raised}
+use Rattle.ipx_carrier.specs.DriverTurns.{SendsEach}
+use Rattle.ipx_carrier.proofs.DriverStates.{sends_one_more}
 use Rattle.ipx_ethernet_ports.specs.EndTraffic.{EndFrame, EndTraffic, EndsPass, failures_counted, frame_at, raised_times}
-use Rattle.ipx_ethernet_ports.specs.OnEthernet.{ReachesEnds, ends_on}
+use Rattle.ipx_ethernet_ports.specs.OnEthernet.{ReachesEnds, ends_on, frames_to}
 
 -- ---- what passes, one after another
 
@@ -140,3 +142,28 @@ reaches_after way n port bytes came s t u f g first r =
       went = subst (λ (cs : List EndFrame). EndsPass s u cs went) (append-nil came) both;
       failures = r.failures;
     }
+
+-- ---- frames that are handed to sockets, one after another
+
+and_true : (b : Bool) → (b && true) ≡ b
+and_true true = refl
+and_true false = refl
+
+module _ {S : Type 0} (sends : S → EndFrame → S → Type 0) where
+  -- the frames for the remotes so far, and for one more if the egress names it
+  frames_more : (way : Egress) (n port : ℕ) (bytes : List ℕ) (named : Bool) → is_way_to way n ≡ named
+      → frames_to way (n + 1) port bytes ≡ frames_to way n port bytes ++ map (frame_at port bytes) (one_end named n)
+  frames_more way n port bytes named is =
+      let both : (is_way_to way n && true) ≡ named = ap (λ (b : Bool). b && true) is ∙ and_true named in
+      ap (map (frame_at port bytes)) (ends_more way (λ e. true) (λ e. true) n true (λ e lt. refl) refl ∙ ap (λ (b : Bool). ends_on way (λ e. true) n ++ one_end b n) both)
+      ∙ map-append (frame_at port bytes) (ends_on way (λ e. true) n) (one_end named n)
+
+  pub hands_past : (way : Egress) (n port : ℕ) (bytes : List ℕ) (x y : S) → is_way_to way n ≡ false → SendsEach sends (frames_to way n port bytes) x y → SendsEach sends (frames_to way (n + 1) port bytes) x y
+  hands_past way n port bytes x y past h =
+      subst (λ (fs : List EndFrame). SendsEach sends fs x y) (sym (frames_more way n port bytes false past ∙ append-nil (frames_to way n port bytes))) h
+
+  pub hands_one : (way : Egress) (n port : ℕ) (bytes : List ℕ) (x y z : S) → is_way_to way n ≡ true → SendsEach sends (frames_to way n port bytes) x y → sends y (frame_at port bytes n) z
+      → SendsEach sends (frames_to way (n + 1) port bytes) x z
+  hands_one way n port bytes x y z named h k =
+      subst (λ (fs : List EndFrame). SendsEach sends fs x z) (sym (frames_more way n port bytes true named))
+      (sends_one_more sends (frames_to way n port bytes) (frame_at port bytes n) x y z h k)

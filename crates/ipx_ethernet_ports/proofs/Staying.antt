@@ -1,8 +1,8 @@
 -- What stays of the sockets as one of them sends or receives, and what came of asking one of them.
-use Rattle.std.proofs.Common.{Vec, ◌≡◌, ℕ, Bool, false, List, Option, Some, None, Result, Ok, Err, length, ap, refl, subst, sym, ◌∙◌, slice_index_or, slice_set}
+use Rattle.std.proofs.Common.{Vec, ◌≡◌, ℕ, Bool, false, true, List, Option, Some, None, Result, Ok, Err, length, ap, refl, subst, sym, ◌∙◌, slice_index_or, slice_set}
 use Rattle.std.proofs.Math.Seq.{map-set_same}
 use Rattle.std.proofs.lemmas.Option.{get_or_from_slice_get}
-use Rattle.std.specs.Prelude.{IfSome, OnOk, is_err, slice_get}
+use Rattle.std.specs.Prelude.{IfSome, OnErr, OnOk, is_err, slice_get}
 use Rattle.std.specs.Option.{option_map}
 use Rattle.std.specs.Global.{Global}
 use Rattle.std.specs.declared.net.socket_addr.SocketAddr.{SocketAddr}
@@ -11,8 +11,8 @@ use Rattle.ipx_carrier.specs.declared.fault.DeviceFault.{DeviceFault}
 use Rattle.ipx_carrier.specs.declared.placed_socket.PlacedSocket.{PlacedSocket}
 use Rattle.ipx_carrier.specs.Counting.{raised}
 use Rattle.ipx_carrier.specs.ReadySet.{IsFilteredOrAnswer, is_come, marks_after}
-use Rattle.ipx_carrier.specs.Traces.{Got, TriesToReceive, sent_to}
-use Rattle.ipx_ethernet_ports.specs.EthernetAddresses.{AsksForFrame, SendsFrame, end_at_place, frame_handed, last_refused, place_of_sender, remote_counts, with_remote}
+use Rattle.ipx_carrier.specs.Traces.{Got, TriesToReceive, refused_to, sent_to}
+use Rattle.ipx_ethernet_ports.specs.EthernetAddresses.{AsksForFrame, RefusesFrame, SendsFrame, end_at_place, frame_handed, last_refused, place_of_sender, remote_counts, with_remote}
 use Rattle.ipx_ethernet_ports.specs.declared.end_sockets.FrameCame.{FrameCame}
 use Rattle.ipx_ethernet_ports.specs.declared.sockets.EthernetSocket.{EthernetSocket}
 
@@ -53,6 +53,19 @@ sends_there ethernet port end bytes w wire there sent =
     at_port _ (slice_get ethernet port) w (λ v e. sym (there ∙ get_or_from_slice_get ethernet port v w e))
     (weaker (λ (to : SocketAddrV4). wire ≡ record w { socket = sent_to w.socket to bytes }) (λ (to : SocketAddrV4). slice_set ethernet port wire ≡ slice_set ethernet port (record w { socket = sent_to w.socket to bytes })) (slice_get w.ends.items end)
     (λ to is. ap (slice_set ethernet port) is) sent)
+
+-- what holds after a call that failed
+pub failed : {T E P : Type 0} (r : Result T E) → is_err r ≡ true → OnErr r P → P
+failed (Ok t) e p = absurd (cc)
+failed (Err f) e p = p
+
+-- the system refused the frame
+pub refuses_there : (ethernet : List EthernetSocket) (port end : ℕ) (bytes : List ℕ) (w wire : EthernetSocket) → w ≡ slice_index_or ethernet port w
+    → IfSome (slice_get w.ends.items end) (λ to. wire ≡ record w { socket = refused_to w.socket to bytes }) → RefusesFrame port end bytes ethernet (slice_set ethernet port wire)
+refuses_there ethernet port end bytes w wire there refused =
+    at_port _ (slice_get ethernet port) w (λ v e. sym (there ∙ get_or_from_slice_get ethernet port v w e))
+    (weaker (λ (to : SocketAddrV4). wire ≡ record w { socket = refused_to w.socket to bytes }) (λ (to : SocketAddrV4). slice_set ethernet port wire ≡ slice_set ethernet port (record w { socket = refused_to w.socket to bytes })) (slice_get w.ends.items end)
+    (λ to is. ap (slice_set ethernet port) is) refused)
 
 abbrev frame : ℕ → ℕ → FrameCame
 frame end size = record { end = end; size = size }

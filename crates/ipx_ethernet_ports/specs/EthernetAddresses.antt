@@ -1,6 +1,6 @@
 -- To which remote a UDP datagram goes, and from which one it comes. Defined by this project: a datagram over
 -- IPv6 comes from none.
-use Rattle.std.specs.Prelude.{◌≡◌, ℕ, ℤ, List, Bool, true, false, ◌==◌, ◌&&◌, Option, Some, None, Result, Ok, Err, IfSome, is_some, if◌then◌else◌, length, map, position, slice_get, slice_set}
+use Rattle.std.specs.Prelude.{◌≡◌, ◌⊎◌, ℕ, ℤ, List, Bool, true, false, ◌==◌, ◌&&◌, Option, Some, None, Result, Ok, Err, IfSome, is_some, if◌then◌else◌, length, map, position, slice_get, slice_set}
 use Rattle.std.specs.Option.{option_map}
 use Rattle.std.specs.Str.{bytes_eq}
 use Rattle.std.specs.Net.Addr.{ipv4_octets}
@@ -10,12 +10,14 @@ use Rattle.std.specs.declared.net.socket_addr.SocketAddr.TheVariants.{V4, V6}
 use Rattle.std.specs.declared.net.socket_addr.SocketAddrV4.{SocketAddrV4}
 use Rattle.ipx_carrier.specs.declared.fault.DeviceFault.{DeviceFault}
 use Rattle.ipx_carrier.specs.declared.placed_socket.PlacedSocket.{PlacedSocket}
+use Rattle.ipx_carrier.specs.Counting.{raised}
 use Rattle.ipx_carrier.specs.ReadySet.{IsFilteredOrAnswer, is_come, is_port_marked, marks_after}
 use Rattle.ipx_carrier.specs.SocketEvents.{SocketEvent}
 use Rattle.ipx_carrier.specs.Traces.{Got, TriesToReceive, raw_fd_of, refused_to, sent_to}
 use Rattle.ipx_ethernet_ports.specs.declared.end_sockets.FrameCame.{FrameCame}
 use Rattle.ipx_ethernet_ports.specs.declared.sockets.EthernetSocket.{EthernetSocket}
 use Rattle.ipx_ethernet_ports.specs.declared.sockets.EthernetSockets.{EthernetSockets}
+use Rattle.ipx_ethernet_ports.specs.EndTraffic.{EndFrame}
 
 -- a remote has this address
 abbrev pub is_place : SocketAddr → SocketAddrV4 → Bool
@@ -97,6 +99,16 @@ AsksEthernetSockets port (Ok answer) room old new = (is_port_marked old.marks po
     × (is_port_marked old.marks port ≡ true → AsksMarkedPort port answer room old new)
     × (new.sent ≡ old.sent) × (new.failures ≡ old.failures)
 AsksEthernetSockets port (Err _) room old new = ⊥
+
+-- the socket of the port of a frame was asked to send it to the address of its remote. The system took it or
+-- refused it, and that is counted. All else stays
+abbrev pub SendsByEthernetSockets : EthernetSockets → EndFrame → EthernetSockets → Type 0
+SendsByEthernetSockets old f new = (((new.sent ≡ raised old.sent) × (new.failures ≡ old.failures)
+    × SendsFrame f.port f.end f.bytes old.ethernet.items new.ethernet.items)
+    ⊎ ((new.sent ≡ old.sent) × (new.failures ≡ raised old.failures)
+    × RefusesFrame f.port f.end f.bytes old.ethernet.items new.ethernet.items))
+    × (new.faults ≡ old.faults) × (new.unknown_senders ≡ old.unknown_senders)
+    × (new.last_unknown ≡ old.last_unknown) × (new.marks ≡ old.marks)
 
 -- ---- definitions for the private functions
 

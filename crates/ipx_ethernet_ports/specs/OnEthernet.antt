@@ -1,5 +1,5 @@
 -- What Ethernet ports do with the frames there, and with packets of their core. Defined by this project.
-use Rattle.std.specs.Prelude.{◌≡◌, ◌<◌, ◌⊎◌, ℕ, List, [], ◌∷◌, Bool, false, not, ◌&&◌, Option, Some, None, Result, filter, length, map, slice_get, slice_set, take}
+use Rattle.std.specs.Prelude.{◌≡◌, ◌<◌, ◌⊎◌, ℕ, List, [], ◌∷◌, Bool, false, true, not, ◌&&◌, Option, Some, None, Result, filter, length, map, slice_get, slice_set, take}
 use Rattle.std.specs.List.{range_with_len}
 use Rattle.ipx_wire.specs.declared.address.Node.{Node}
 use Rattle.ipx_ethernet.specs.declared.encapsulation.Encapsulation.{Encapsulation}
@@ -16,6 +16,7 @@ use Rattle.ipx_carrier.specs.declared.fault.DeviceFault.{DeviceFault}
 use Rattle.ipx_carrier.specs.declared.port_driver.PacketSent.{PacketSent}
 use Rattle.ipx_carrier.specs.declared.port_driver.PacketSent.TheVariants.{Unmapped, Transmitted}
 use Rattle.ipx_carrier.specs.Counting.{raised}
+use Rattle.ipx_carrier.specs.DriverTurns.{SendsEach}
 use Rattle.ipx_carrier.specs.Turns.{Given, Ways}
 use Rattle.ipx_ethernet_ports.specs.declared.end_sockets.FrameCame.{FrameCame}
 use Rattle.ipx_ethernet_ports.specs.EndTraffic.{EndFrame, EndTraffic, EndsPass, frame_answered, frame_at, raised_times}
@@ -51,6 +52,10 @@ by_frames ports p = frame_from (slice_get ports p.port) p
 abbrev pub ends_on : Egress → (ℕ → Bool) → ℕ → List ℕ
 ends_on way test n = filter (λ e. is_way_to way e && test e) (range_with_len 0 n)
 
+-- the same bytes as a frame for each of the n remotes of a port that an egress names, in order
+abbrev pub frames_to : Egress → ℕ → ℕ → List ℕ → List EndFrame
+frames_to way n port bytes = map (frame_at port bytes) (ends_on way (λ e. true) n)
+
 -- after what came, bytes were sent to each of the remotes that an egress names, in order. Those that took
 -- them have them, and one failure was counted for each of the others
 pub record ReachesEnds (way : Egress) (n port : ℕ) (bytes : List ℕ) (came : List EndFrame) (old new : Option EndTraffic) (failed failed_after : ℕ) : Type 0 where
@@ -85,16 +90,35 @@ abbrev pub ethernet_ports_view : List SwitchView → ℕ → Option EndTraffic �
 ethernet_ports_view switches kept traffic failed =
     record { switches = switches; kept = kept; traffic = traffic; failed = failed }
 
+-- how sockets are handed frames at a port of n remotes, as `sends` says of each, beside these switches
+module _ {S : Type 0} (sends : S → EndFrame → S → Type 0) (n now : ℕ) (switches : List SwitchView) where
+  -- what sockets answered was handed on to them: a frame, as it came, for each remote that its switch then says,
+  -- in order; and nothing if none came
+  abbrev pub HandsOn : List SwitchView → Option EndFrame → S → S → Type 0
+  HandsOn switches_after None old new = new ≡ old
+  HandsOn switches_after (Some f) old new = (h after : SwitchView) × (slice_get switches f.port ≡ Some h)
+      × (switches_after ≡ slice_set switches f.port after)
+      × SendsEach sends (frames_to (way_after after f.bytes f.end now) n f.port f.bytes) old new
+
+  -- a packet of the core was handed to them: as its frame for each remote that the switch of its port says, in
+  -- order; and as nothing if it does not fit a frame
+  abbrev pub HandsPacket : Given → PacketSent → S → S → Type 0
+  HandsPacket p (Transmitted count) old new = (h : SwitchView) × (frame : List ℕ)
+      × (slice_get switches p.port ≡ Some h)
+      × IsSentFrame h.port.encapsulation (frame_of p.node h.port.own (own_bytes p.bytes)) frame
+      × SendsEach sends (frames_to (way_of_own p.node now h.stations) n p.port frame) old new
+  HandsPacket p Unmapped old new = new ≡ old
+
 -- sockets were asked at a port, into a buffer longer than any frame, and `asks` says what came of that. This
--- frame is what they answered, or none came. If none came, nothing else was done with them
-pub record AreAskedForFrame {S : Type 0} (asks : ℕ → Result (Option FrameCame) DeviceFault → List ℕ → S → S → Type 0) (port : ℕ) (before : S) (came : Option EndFrame) (after : S) : Type 0 where
+-- frame is what they answered, or none came. Then just that was handed on to them
+pub record AreAskedForFrame {S : Type 0} (asks : ℕ → Result (Option FrameCame) DeviceFault → List ℕ → S → S → Type 0) (sends : S → EndFrame → S → Type 0) (n now : ℕ) (switches switches_after : List SwitchView) (port : ℕ) (before : S) (came : Option EndFrame) (after : S) : Type 0 where
   pub answer : Result (Option FrameCame) DeviceFault
   pub buffer : List ℕ
   pub asked : S
   pub asking : asks port answer buffer before asked
   pub whole : frame_buffer < length buffer
   pub answered : came ≡ frame_answered port buffer answer
-  pub nothing : came ≡ None → after ≡ asked
+  pub onward : HandsOn sends n now switches switches_after came asked after
 
 -- a frame came to a port of n remotes, and only this one. It is forwarded, as it came, to the remotes that
 -- the switch says, never to its own. The core gets its packet if that is for it

@@ -4,7 +4,7 @@ ghost use Rattle.std.specs.Prelude.{◌≡◌, ◌<◌, ◌≤◌, ℕ, Bool, Li
 ghost use Rattle.ipx_carrier.specs.declared.fault.DeviceFault.{DeviceFault};
 ghost use Rattle.ipx_carrier.specs.Readiness.{AsksPortWithMark, MarksStay};
 ghost use Rattle.ipx_ethernet_ports.specs.declared.end_sockets.FrameCame.{FrameCame};
-ghost use Rattle.ipx_ethernet_ports.specs.EndTraffic.{EndTraffic, EndsPass, came_in, failures_counted, frame_at, frames_in};
+ghost use Rattle.ipx_ethernet_ports.specs.EndTraffic.{EndFrame, EndTraffic, EndsPass, came_in, failures_counted, frame_at, frames_in};
 
 use ipx_carrier::DeviceFault;
 
@@ -41,6 +41,9 @@ pub trait EndSockets {
     /// sockets before become those after.
     ghost asks: { ℕ → Result (Option FrameCame) DeviceFault → List ℕ → Self → Self → Type 0 };
 
+    /// How `send` of this frame may leave the sockets, failed or not.
+    ghost sends: { Self → EndFrame → Self → Type 0 };
+
     /// How many ports there are.
     fn ports(&self) -> usize
         ensures { result ≡ length (ends_of self.now) };
@@ -66,6 +69,7 @@ pub trait EndSockets {
         requires end { end < slice_index (ends_of self.old) port }
         ensures sent { OnOk result (EndsPass (traffic self.old) (traffic self.new)
             [] (frame_at port bytes.now end ∷ [])) }
+        ensures sends { sends self.old (frame_at port bytes.now end) self.new }
         ensures refused { OnErr result (traffic self.new ≡ traffic self.old) }
         ensures failures { failed self.new ≡ failures_counted result (failed self.old) }
         ensures ends { ends_of self.new ≡ ends_of self.old }

@@ -1,12 +1,12 @@
 //! Ethernet ports.
 
-ghost use Rattle.std.specs.Prelude.{◌≡◌, ◌<◌, ◌≤◌, ◌+◌, ◌^◌, [], Option, None, IfOk, IfSome, OnErr, OnOk, is_some, length, map, min, slice_index, slice_set, true};
+ghost use Rattle.std.specs.Prelude.{◌≡◌, ◌<◌, ◌≤◌, ◌+◌, ◌^◌, [], Option, None, Some, IfOk, IfSome, OnErr, OnOk, is_some, length, map, min, slice_index, slice_set, true};
 ghost use Rattle.ipx_carrier.specs.Device.{received_in};
 ghost use Rattle.ipx_carrier.specs.PortDrivers.{copies_count, count_in};
 ghost use Rattle.ipx_carrier.specs.Readiness.{AsksPortWithMark, MarksStay};
 ghost use Rattle.ipx_ethernet_ports.specs.EndTraffic.{EndFrame, frame_at};
 ghost use Rattle.ipx_ethernet_ports.specs.EthernetCalls.{ReceivesByEthernet, SendsByEthernet};
-ghost use Rattle.ipx_ethernet_ports.specs.OnEthernet.{HearsAnswerOf, HearsAtEthernet, SendsPacket, by_frames, ethernet_ports_view};
+ghost use Rattle.ipx_ethernet_ports.specs.OnEthernet.{HandsOn, HandsPacket, HearsAnswerOf, HearsAtEthernet, SendsPacket, by_frames, ethernet_ports_view};
 
 use crate::end_sockets::EndSockets;
 use crate::reaching::send_to_ends;
@@ -80,6 +80,10 @@ impl<D: EndSockets + Drop> EthernetPorts<D> {
             (D.traffic self.old.sockets) (D.failed self.old.sockets))
             (ethernet_ports_view self.new.switches.items self.new.kept
             (D.traffic self.new.sockets) (D.failed self.new.sockets)) }
+        ensures hands { HandsPacket D.sends (slice_index (D.ends_of self.old.sockets) port)
+            self.old.moment self.old.switches.items
+            (record { port = port; node = node; bytes = packet.now }) result
+            self.old.sockets self.new.sockets }
         ensures rest { self.new.moment ≡ self.old.moment }
         ensures ends { D.ends_of self.new.sockets ≡ D.ends_of self.old.sockets }
         ensures filtered { D.filtered self.new.sockets ≡ D.filtered self.old.sockets }
@@ -113,6 +117,9 @@ impl<D: EndSockets + Drop> EthernetPorts<D> {
             (D.traffic self.old.sockets) (D.failed self.old.sockets))
             (ethernet_ports_view self.new.switches.items self.new.kept
             (D.traffic self.new.sockets) (D.failed self.new.sockets)) }
+        ensures hands { HandsOn D.sends (slice_index (D.ends_of self.old.sockets) port)
+            self.old.moment self.old.switches.items self.new.switches.items
+            (Some (frame_at port bytes.now end)) self.old.sockets self.new.sockets }
         ensures within { IfSome result (λ n. n ≤ length room.old) }
         ensures untouched { result ≡ None → room.new ≡ room.old }
         ensures rest { self.new.moment ≡ self.old.moment }
@@ -176,9 +183,9 @@ impl<D: EndSockets + Drop> PortDriver for EthernetPorts<D> {
 
     ghost marked = { λ w. D.marked w.sockets };
 
-    ghost receives = { ReceivesByEthernet D.ends_of D.traffic D.failed D.asks };
+    ghost receives = { ReceivesByEthernet D.ends_of D.traffic D.failed D.asks D.sends };
 
-    ghost sends = { SendsByEthernet D.ends_of D.traffic D.failed };
+    ghost sends = { SendsByEthernet D.ends_of D.traffic D.failed D.sends };
 
     ghost fails_to_receive = { λ w port size v. ⊥ };
 
@@ -203,7 +210,7 @@ impl<D: EndSockets + Drop> PortDriver for EthernetPorts<D> {
             (D.traffic self.old.sockets) (D.failed self.old.sockets))
             (ethernet_ports_view self.new.switches.items self.new.kept
             (D.traffic self.new.sockets) (D.failed self.new.sockets))) }
-        ensures sends { OnOk result (SendsByEthernet D.ends_of D.traffic D.failed self.old
+        ensures sends { OnOk result (SendsByEthernet D.ends_of D.traffic D.failed D.sends self.old
             (record { port = port; node = node; bytes = packet.now }) self.new) }
         ensures goes_on { OnErr result ⊥ }
         ensures count { IfOk result (λ sent. count_in sent
@@ -224,9 +231,9 @@ impl<D: EndSockets + Drop> PortDriver for EthernetPorts<D> {
     fn receive(&mut self, port: usize, room: &mut [u8]) -> Result<Option<usize>, DeviceFault>
         requires there { port < min (length self.old.switches.items)
             (length (D.ends_of self.old.sockets)) }
-        // The sockets were asked at the port, and what they answered is heard.
+        // The sockets were asked at the port. What they answered is heard, and handed on to them.
         ensures receives { IfOk result (λ up. ReceivesByEthernet D.ends_of D.traffic D.failed D.asks
-            self.old port (length room.old) (received_in room.new up) self.new) }
+            D.sends self.old port (length room.old) (received_in room.new up) self.new) }
         // A frame came from a remote and was forwarded, or none came, or the sockets failed.
         ensures received { IfOk result (λ up. (came : Option EndFrame)
             × IfSome came (λ frame. frame.port ≡ port)

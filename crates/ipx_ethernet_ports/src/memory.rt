@@ -119,6 +119,9 @@ impl EndSockets for MemoryEnds {
     // What they were asked is tested.
     ghost asks = { λ port answer room m n. Unit {0} };
 
+    // Their traffic says what was sent.
+    ghost sends = { λ m frame n. Unit {0} };
+
     fn ports(&self) -> usize {
         self.ends.len()
     }

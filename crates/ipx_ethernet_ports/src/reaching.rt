@@ -1,8 +1,9 @@
 //! A frame that is sent to several remotes of a port.
 
 ghost use Rattle.std.specs.Prelude.{◌≡◌, ◌<◌, [], length, slice_index};
+ghost use Rattle.ipx_carrier.specs.DriverTurns.{SendsEach};
 ghost use Rattle.ipx_carrier.specs.Readiness.{MarksStay};
-ghost use Rattle.ipx_ethernet_ports.specs.OnEthernet.{ReachesEnds};
+ghost use Rattle.ipx_ethernet_ports.specs.OnEthernet.{ReachesEnds, frames_to};
 
 use crate::end_sockets::EndSockets;
 use ipx_ethernet::Egress;
@@ -14,6 +15,9 @@ pub fn send_to_ends<D: EndSockets>(sockets: &mut D, port: usize, way: Egress, by
     ensures reached { ReachesEnds way (slice_index (D.ends_of sockets.old) port) port bytes.now []
         (D.traffic sockets.old) (D.traffic sockets.new)
         (D.failed sockets.old) (D.failed sockets.new) }
+    ensures sends { SendsEach D.sends
+        (frames_to way (slice_index (D.ends_of sockets.old) port) port bytes.now)
+        sockets.old sockets.new }
     ensures ends { D.ends_of sockets.new ≡ D.ends_of sockets.old }
     ensures filtered { D.filtered sockets.new ≡ D.filtered sockets.old }
     ensures marks { MarksStay (D.marked sockets.old) (D.marked sockets.new) }

@@ -6,8 +6,8 @@ ghost use Rattle.ipx_carrier.specs.Counting.{raised};
 ghost use Rattle.ipx_carrier.specs.Readiness.{AsksPortWithMark};
 ghost use Rattle.ipx_carrier.specs.ReadySet.{is_port_marked};
 ghost use Rattle.ipx_carrier.specs.Traces.{Got, TriesToReceive, refused_to, sent_to};
-ghost use Rattle.ipx_ethernet_ports.specs.EndTraffic.{failures_counted};
-ghost use Rattle.ipx_ethernet_ports.specs.EthernetAddresses.{AsksMarkedPort, RefusesFrame, SendsFrame, bound_places, end_at_place, ethernet_events, ethernet_fds, is_place, place_of_sender, remote_counts, remote_places, with_remote};
+ghost use Rattle.ipx_ethernet_ports.specs.EndTraffic.{failures_counted, frame_at};
+ghost use Rattle.ipx_ethernet_ports.specs.EthernetAddresses.{AsksMarkedPort, RefusesFrame, SendsByEthernetSockets, SendsFrame, bound_places, end_at_place, ethernet_events, ethernet_fds, is_place, place_of_sender, remote_counts, remote_places, with_remote};
 
 use crate::end_sockets::{EndSockets, FrameCame};
 use ipx_carrier::{DeviceFault, PlacedSocket, ReadySet, saturating_increment};
@@ -214,7 +214,7 @@ impl EthernetSockets {
 
 impl EndSockets for EthernetSockets {
     ghost use Rattle.std.specs.Prelude.{None};
-    ghost use Rattle.ipx_ethernet_ports.specs.EthernetAddresses.{AsksEthernetSockets};
+    ghost use Rattle.ipx_ethernet_ports.specs.EthernetAddresses.{AsksEthernetSockets, SendsByEthernetSockets};
 
     ghost ends_of = { λ s. remote_counts s.ethernet.items };
 
@@ -228,6 +228,8 @@ impl EndSockets for EthernetSockets {
     ghost marked = { λ s. is_port_marked s.marks };
 
     ghost asks = { AsksEthernetSockets };
+
+    ghost sends = { SendsByEthernetSockets };
 
     fn ports(&self) -> usize {
         self.ethernet.len()
@@ -254,6 +256,7 @@ impl EndSockets for EthernetSockets {
             self.new.ethernet.items) }
         ensures nowhere { OnErr result (RefusesFrame port end bytes.now self.old.ethernet.items
             self.new.ethernet.items) }
+        ensures sends { SendsByEthernetSockets self.old (frame_at port bytes.now end) self.new }
         ensures ends { remote_counts self.new.ethernet.items ≡ remote_counts self.old.ethernet.items }
         // The system took it or refused it, and that is counted.
         ensures sent { OnOk result (self.new.sent ≡ raised self.old.sent) }

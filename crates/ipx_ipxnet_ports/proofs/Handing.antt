@@ -9,6 +9,8 @@ use Rattle.std.specs.declared.net.socket_addr.SocketAddrV4.{SocketAddrV4}
 use Rattle.ipxnet_server.specs.declared.recipients.Recipients.{Recipients}
 use Rattle.ipxnet_server.specs.ServerHears.{ServerView, takers_join, takers_reach}
 use Rattle.ipx_carrier.specs.Counting.{raised}
+use Rattle.ipx_carrier.specs.DriverTurns.{SendsEach}
+use Rattle.ipx_carrier.proofs.DriverStates.{sends_one_more}
 use Rattle.ipx_ipxnet_ports.specs.OnServers.{relayed_on}
 use Rattle.ipx_ipxnet_ports.specs.PlaceTraffic.{HandedDatagram, HandsOver, PlaceDatagram, PlaceTraffic, PlacesPass, failures_with, place_datagram, raised_by}
 
@@ -125,6 +127,23 @@ module _ {X : Type 0} (place : X → SocketAddrV4) (p : X → Bool) (cs : List X
       let same : sent_to place port bytes (filter p (take (n + 1) cs)) ≡ sent_to place port bytes before ++ one ∷ [] =
       ap (sent_to place port bytes) (among_more true is) ∙ map-append (λ (x : X). place_datagram port bytes (place x)) before (get_or cs n d ∷ []) in
       subst (λ (ds : List PlaceDatagram). HandsOver ds [] s u f i) (sym same) (hands_both (sent_to place port bytes before) (one ∷ []) s t u f g i h (hands_one sent one t u g i went none counted))
+
+  -- the same of the sockets to which they are handed
+  module _ {S : Type 0} (sends : S → PlaceDatagram → S → Type 0) (port : ℕ) (bytes : List ℕ) where
+    pub sends_past : (a b : S) → p (get_or cs n d) ≡ false → SendsEach sends (sent_to place port bytes (filter p (take n cs))) a b
+        → SendsEach sends (sent_to place port bytes (filter p (take (n + 1) cs))) a b
+    sends_past a b is h =
+        let same : filter p (take (n + 1) cs) ≡ filter p (take n cs) = among_more false is ∙ append-nil _ in
+        subst (λ (xs : List X). SendsEach sends (sent_to place port bytes xs) a b) (sym same) h
+
+    pub sends_one : (a b c : S) → p (get_or cs n d) ≡ true → SendsEach sends (sent_to place port bytes (filter p (take n cs))) a b
+        → sends b (place_datagram port bytes (place (get_or cs n d))) c → SendsEach sends (sent_to place port bytes (filter p (take (n + 1) cs))) a c
+    sends_one a b c is h k =
+        let before : List X = filter p (take n cs) in
+        let one : PlaceDatagram = place_datagram port bytes (place (get_or cs n d)) in
+        let same : sent_to place port bytes (filter p (take (n + 1) cs)) ≡ sent_to place port bytes before ++ one ∷ [] =
+        ap (sent_to place port bytes) (among_more true is) ∙ map-append (λ (x : X). place_datagram port bytes (place x)) before (get_or cs n d ∷ []) in
+        subst (λ (ds : List PlaceDatagram). SendsEach sends ds a c) (sym same) (sends_one_more sends (sent_to place port bytes before) one a b c h k)
 
 -- ---- joined routers, one after another
 

@@ -26,6 +26,7 @@ use Rattle.ipx_carrier.specs.declared.fault.DeviceFault.{DeviceFault}
 use Rattle.ipx_carrier.specs.declared.port_driver.PacketSent.{PacketSent}
 use Rattle.ipx_carrier.specs.declared.port_driver.PacketSent.TheVariants.{Unmapped, Transmitted}
 use Rattle.ipx_carrier.specs.Counting.{raised}
+use Rattle.ipx_carrier.specs.DriverTurns.{SendsEach}
 use Rattle.ipx_carrier.specs.Turns.{Given, Ways}
 use Rattle.ipx_ipxnet_ports.specs.declared.place_sockets.DatagramCame.{DatagramCame}
 use Rattle.ipx_ipxnet_ports.specs.PlaceTraffic.{HandsOver, PlaceDatagram, PlaceTraffic, PlacesPass, datagram_answered, place_datagram}
@@ -127,16 +128,30 @@ servers_view servers kept traffic failed =
 abbrev pub datagram_buffer : ℕ
 datagram_buffer = 1536
 
+-- what a server sends for bytes that it received was handed to the sockets, in order, as `sends` says of each: its
+-- answer, if there is one, the bytes for its clients, and then for joined routers
+abbrev pub HandsOn : {S : Type 0} → (S → PlaceDatagram → S → Type 0) → ServerView → Disposition → PlaceDatagram → S → S → Type 0
+HandsOn sends l heard d old new = (answer : Option (List ℕ)) × (is_some answer ≡ is_some (answer_of heard))
+    × IfSome answer (λ bytes. IsAnswer heard bytes)
+    × SendsEach sends (server_sends l heard d answer ++ joined_sends l heard d) old new
+
+-- the same for what the sockets answered, by what the server of its port made of that; nothing if none came
+abbrev pub HandsAnswerOn : {S : Type 0} → (S → PlaceDatagram → S → Type 0) → ℕ → List ServerView → List ServerView → Option PlaceDatagram → S → S → Type 0
+HandsAnswerOn sends now servers servers_after None old new = new ≡ old
+HandsAnswerOn sends now servers servers_after (Some d) old new = (l after : ServerView) × (heard : Disposition)
+    × (slice_get servers d.port ≡ Some l) × (servers_after ≡ slice_set servers d.port after)
+    × HearsBytes l d.place d.bytes now heard after × HandsOn sends after heard d old new
+
 -- sockets were asked at a port, into a buffer of that size, and `asks` says what came of that. This datagram is
--- what they answered, or none came. If none came, nothing else was done with them
-pub record AreAskedForDatagram {S : Type 0} (asks : ℕ → Result (Option DatagramCame) DeviceFault → List ℕ → S → S → Type 0) (port : ℕ) (before : S) (came : Option PlaceDatagram) (after : S) : Type 0 where
+-- what they answered, or none came. Then just what its server sends for it was handed to them
+pub record AreAskedForDatagram {S : Type 0} (asks : ℕ → Result (Option DatagramCame) DeviceFault → List ℕ → S → S → Type 0) (sends : S → PlaceDatagram → S → Type 0) (now : ℕ) (servers servers_after : List ServerView) (port : ℕ) (before : S) (came : Option PlaceDatagram) (after : S) : Type 0 where
   pub answer : Result (Option DatagramCame) DeviceFault
   pub buffer : List ℕ
   pub asked : S
   pub asking : asks port answer buffer before asked
   pub size : length buffer ≡ datagram_buffer
   pub answered : came ≡ datagram_answered port buffer answer
-  pub nothing : came ≡ None → after ≡ asked
+  pub onward : HandsAnswerOn sends now servers servers_after came asked after
 
 -- bytes came from an address to the port of a server, and only these. They are answered and sent to clients
 -- and joined routers, as the server says, and the core gets them if they are for it. Nothing is sent to an
@@ -212,6 +227,12 @@ pub record SendsThroughServer (now port : ℕ) (node : Node) (packet : List ℕ)
   pub servers : new.servers ≡ slice_set old.servers port after
   pub counted : new.kept ≡ old.kept
 
+-- such a packet was handed to the sockets, for each of these addresses, as `sends` says of each
+abbrev pub HandsPacket : {S : Type 0} → (S → PlaceDatagram → S → Type 0) → ℕ → List ServerView → Given → S → S → Type 0
+HandsPacket sends now servers p old new = (l : ServerView) × (given : Result Recipients ServerDrop)
+    × (slice_get servers p.port ≡ Some l) × GivesBytes l p.node p.bytes now given
+    × SendsEach sends (packet_sends p.port p.bytes (server_giving given now (server_aged now l)) (takers_given given)) old new
+
 -- the clients that a turn pings, in the order in which the server has them
 abbrev pub clients_pinged : PingTurn → ServerView → List Client
 clients_pinged turn l = filter (is_pinged turn) l.clients
@@ -249,6 +270,18 @@ abbrev pub PingsAtServers : ℕ → ℕ → ServersView → ServersView → Type
 PingsAtServers now zero old new = new ≡ old
 PingsAtServers now (suc n) old new =
     (mid : ServersView) × PingsAtServers now n old mid × PingsAtServer now n mid new
+
+-- the same of each server, by which just its pings were handed to the sockets, as `sends` says of each
+abbrev pub HandsPings : {S : Type 0} → (S → PlaceDatagram → S → Type 0) → ℕ → List ServerView → ℕ → S → S → Type 0
+HandsPings sends now servers port old new = (l : ServerView) × (ping : List ℕ) × (slice_get servers port ≡ Some l)
+    × IsIpx (packet_of (router_ping l.port) []) ping []
+    × SendsEach sends (pings_sent port ping (record { before = l.pinged; now = now }) (server_pinging now l)) old new
+
+abbrev pub PingsThroughSockets : {S : Type 0} → (S → PlaceDatagram → S → Type 0) → ℕ → ℕ → ServersView → ServersView → S → S → Type 0
+PingsThroughSockets sends now zero old new before after = (new ≡ old) × (after ≡ before)
+PingsThroughSockets {S} sends now (suc n) old new before after = (mid : ServersView) × (between : S)
+    × PingsThroughSockets sends now n old mid before between × PingsAtServer now n mid new
+    × HandsPings sends now mid.servers n between after
 
 -- a turn at this time pings somebody at one of these servers
 abbrev pub is_any_pinged : List ServerView → ℕ → Bool

@@ -1,6 +1,6 @@
 -- Where the sockets of ipxnet servers are bound, where a datagram goes and which one comes, and whether its
 -- source address is accepted. Defined by this project: a datagram over IPv6 is never accepted.
-use Rattle.std.specs.Prelude.{◌≡◌, ℕ, ℤ, List, Bool, true, false, if◌then◌else◌, Option, Some, None, Result, Ok, Err, IfSome, is_some, map, slice_get, slice_set}
+use Rattle.std.specs.Prelude.{◌≡◌, ◌⊎◌, ℕ, ℤ, List, Bool, true, false, if◌then◌else◌, Option, Some, None, Result, Ok, Err, IfSome, is_some, map, slice_get, slice_set}
 use Rattle.std.specs.Option.{option_map}
 use Rattle.std.specs.Net.Addr.{ipv4_octets}
 use Rattle.std.specs.Net.Socket.{v4_ip}
@@ -11,6 +11,7 @@ use Rattle.ip_prefixes.specs.Prefixes.{is_in_some}
 use Rattle.ip_prefixes.specs.declared.prefix.Prefix.{Prefix}
 use Rattle.ipx_carrier.specs.declared.fault.DeviceFault.{DeviceFault}
 use Rattle.ipx_carrier.specs.declared.placed_socket.PlacedSocket.{PlacedSocket}
+use Rattle.ipx_carrier.specs.Counting.{raised}
 use Rattle.ipx_carrier.specs.ReadySet.{IsFilteredOrAnswer, is_come, is_port_marked, marks_after}
 use Rattle.ipx_carrier.specs.SocketEvents.{SocketEvent}
 use Rattle.ipx_carrier.specs.Traces.{Got, TriesToReceive, raw_fd_of, refused_to, sent_to}
@@ -19,6 +20,7 @@ use Rattle.ipx_ipxnet_ports.specs.declared.allow.Allow.TheVariants as Allowed
 use Rattle.ipx_ipxnet_ports.specs.declared.place_sockets.DatagramCame.{DatagramCame}
 use Rattle.ipx_ipxnet_ports.specs.declared.sockets.ServerSocket.{ServerSocket}
 use Rattle.ipx_ipxnet_ports.specs.declared.sockets.ServerSockets.{ServerSockets}
+use Rattle.ipx_ipxnet_ports.specs.PlaceTraffic.{PlaceDatagram}
 
 -- the prefixes that are named; None means that every IP address is in one
 abbrev pub listed_prefixes : Allow → Option (List Prefix)
@@ -100,6 +102,16 @@ AsksServerSockets port (Ok answer) room old new = (is_port_marked old.marks port
     × (is_port_marked old.marks port ≡ true → AsksMarkedPort port answer room old new)
     × (new.sent ≡ old.sent) × (new.failures ≡ old.failures)
 AsksServerSockets port (Err _) room old new = ⊥
+
+-- the socket of the port of a datagram was asked to send it to its address. The system took it or refused it, and
+-- that is counted. All else stays
+abbrev pub SendsByServerSockets : ServerSockets → PlaceDatagram → ServerSockets → Type 0
+SendsByServerSockets old d new = (((new.sent ≡ raised old.sent) × (new.failures ≡ old.failures)
+    × SendsToPlace d.port d.place d.bytes old.sockets.items new.sockets.items)
+    ⊎ ((new.sent ≡ old.sent) × (new.failures ≡ raised old.failures)
+    × RefusesToPlace d.port d.place d.bytes old.sockets.items new.sockets.items))
+    × (new.faults ≡ old.faults) × (new.nowhere ≡ old.nowhere)
+    × (new.last_unknown ≡ old.last_unknown) × (new.marks ≡ old.marks)
 
 -- ---- definitions for the private functions
 

@@ -1,10 +1,11 @@
 //! What an ipxnet server sends to addresses.
 
 ghost use Rattle.std.specs.Prelude.{◌≡◌, ◌<◌, [], false};
+ghost use Rattle.ipx_carrier.specs.DriverTurns.{SendsEach};
 ghost use Rattle.ipx_carrier.specs.Readiness.{MarksStay};
 ghost use Rattle.ipxnet_server.specs.ServerClients.{EachClientOnce};
 ghost use Rattle.ipxnet_server.specs.ServerHears.{is_taker, takers_of};
-ghost use Rattle.ipx_ipxnet_ports.specs.OnServers.{GivesOn, answer_for, clients_pinged, clients_reached, noted_asked, relayed_on, relayed_to, routers_reached, sent_to_noted};
+ghost use Rattle.ipx_ipxnet_ports.specs.OnServers.{GivesOn, HandsOn, answer_for, clients_pinged, clients_reached, noted_asked, relayed_on, relayed_to, routers_reached, sent_to_noted};
 ghost use Rattle.ipx_ipxnet_ports.specs.PlaceTraffic.{HandsOver, place_datagram};
 
 use crate::place_sockets::PlaceSockets;
@@ -25,6 +26,8 @@ pub fn send_to_clients<D: PlaceSockets>(
     ensures gone { HandsOver (relayed_to port bytes.now (clients_reached server.now takers)) []
         (D.traffic sockets.old) (D.traffic sockets.new)
         (D.failed sockets.old) (D.failed sockets.new) }
+    ensures sends { SendsEach D.sends (relayed_to port bytes.now (clients_reached server.now takers))
+        sockets.old sockets.new }
     ensures once { EachClientOnce server.now.clients }
     ensures ports { D.port_count sockets.new ≡ D.port_count sockets.old }
     ensures filtered { D.filtered sockets.new ≡ D.filtered sockets.old }
@@ -51,6 +54,8 @@ pub fn send_pings<D: PlaceSockets>(
     ensures gone { HandsOver (relayed_to port ping.now (clients_pinged turn server.now)) []
         (D.traffic sockets.old) (D.traffic sockets.new)
         (D.failed sockets.old) (D.failed sockets.new) }
+    ensures sends { SendsEach D.sends (relayed_to port ping.now (clients_pinged turn server.now))
+        sockets.old sockets.new }
     ensures once { EachClientOnce server.now.clients }
     ensures ports { D.port_count sockets.new ≡ D.port_count sockets.old }
     ensures filtered { D.filtered sockets.new ≡ D.filtered sockets.old }
@@ -77,6 +82,8 @@ pub fn send_asks<D: PlaceSockets>(
     ensures gone { HandsOver (sent_to_noted port ping.now (noted_asked turn server.now)) []
         (D.traffic sockets.old) (D.traffic sockets.new)
         (D.failed sockets.old) (D.failed sockets.new) }
+    ensures sends { SendsEach D.sends (sent_to_noted port ping.now (noted_asked turn server.now))
+        sockets.old sockets.new }
     ensures ports { D.port_count sockets.new ≡ D.port_count sockets.old }
     ensures filtered { D.filtered sockets.new ≡ D.filtered sockets.old }
     ensures marks { MarksStay (D.marked sockets.old) (D.marked sockets.new) }
@@ -102,6 +109,8 @@ pub fn send_to_routers<D: PlaceSockets>(
     ensures gone { HandsOver (relayed_on port bytes.now (routers_reached server.now takers)) []
         (D.traffic sockets.old) (D.traffic sockets.new)
         (D.failed sockets.old) (D.failed sockets.new) }
+    ensures sends { SendsEach D.sends (relayed_on port bytes.now (routers_reached server.now takers))
+        sockets.old sockets.new }
     ensures ports { D.port_count sockets.new ≡ D.port_count sockets.old }
     ensures filtered { D.filtered sockets.new ≡ D.filtered sockets.old }
     ensures marks { MarksStay (D.marked sockets.old) (D.marked sockets.new) }
@@ -125,6 +134,7 @@ fn send_answer<D: PlaceSockets>(
     ensures gone { HandsOver (answer_for port place answer) []
         (D.traffic sockets.old) (D.traffic sockets.new)
         (D.failed sockets.old) (D.failed sockets.new) }
+    ensures sends { SendsEach D.sends (answer_for port place answer) sockets.old sockets.new }
     ensures ports { D.port_count sockets.new ≡ D.port_count sockets.old }
     ensures filtered { D.filtered sockets.new ≡ D.filtered sockets.old }
     ensures marks { MarksStay (D.marked sockets.old) (D.marked sockets.new) }
@@ -152,6 +162,8 @@ pub fn give_on<D: PlaceSockets>(
     ensures gone { GivesOn server.now heard (place_datagram port bytes.now from) []
         (D.traffic sockets.old) (D.traffic sockets.new)
         (D.failed sockets.old) (D.failed sockets.new) }
+    ensures sends { HandsOn D.sends server.now heard (place_datagram port bytes.now from)
+        sockets.old sockets.new }
     ensures ports { D.port_count sockets.new ≡ D.port_count sockets.old }
     ensures filtered { D.filtered sockets.new ≡ D.filtered sockets.old }
     ensures marks { MarksStay (D.marked sockets.old) (D.marked sockets.new) }

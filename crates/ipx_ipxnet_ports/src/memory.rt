@@ -118,6 +118,9 @@ impl PlaceSockets for MemoryPlaces {
     // What they were asked is tested.
     ghost asks = { λ port answer room m n. Unit {0} };
 
+    // Their traffic says what was sent.
+    ghost sends = { λ m datagram n. Unit {0} };
+
     fn ports(&self) -> usize {
         self.ports
     }

@@ -4,7 +4,7 @@ ghost use Rattle.std.specs.Prelude.{◌≡◌, ◌<◌, ◌≤◌, ℕ, Bool, Li
 ghost use Rattle.ipx_carrier.specs.declared.fault.DeviceFault.{DeviceFault};
 ghost use Rattle.ipx_carrier.specs.Readiness.{AsksPortWithMark, MarksStay};
 ghost use Rattle.ipx_ipxnet_ports.specs.declared.place_sockets.DatagramCame.{DatagramCame};
-ghost use Rattle.ipx_ipxnet_ports.specs.PlaceTraffic.{PlaceTraffic, PlacesPass, came_from_place, failures_with, place_datagram, place_datagrams};
+ghost use Rattle.ipx_ipxnet_ports.specs.PlaceTraffic.{PlaceDatagram, PlaceTraffic, PlacesPass, came_from_place, failures_with, place_datagram, place_datagrams};
 
 use ipx_carrier::DeviceFault;
 use std::net::SocketAddrV4;
@@ -43,6 +43,9 @@ pub trait PlaceSockets {
     /// sockets before become those after.
     ghost asks: { ℕ → Result (Option DatagramCame) DeviceFault → List ℕ → Self → Self → Type 0 };
 
+    /// How `send` of this datagram may leave the sockets, failed or not.
+    ghost sends: { Self → PlaceDatagram → Self → Type 0 };
+
     /// How many ports there are.
     fn ports(&self) -> usize
         ensures { result ≡ port_count self.now };
@@ -62,6 +65,7 @@ pub trait PlaceSockets {
         requires { port < port_count self.old }
         ensures sent { OnOk result (PlacesPass (traffic self.old) (traffic self.new)
             [] (place_datagram port bytes.now place ∷ [])) }
+        ensures sends { sends self.old (place_datagram port bytes.now place) self.new }
         ensures refused { OnErr result (traffic self.new ≡ traffic self.old) }
         ensures failures { failed self.new ≡ failures_with result (failed self.old) }
         ensures ports { port_count self.new ≡ port_count self.old }

@@ -1,10 +1,10 @@
 //! Ports with ipxnet servers.
 
-ghost use Rattle.std.specs.Prelude.{◌≡◌, ◌<◌, ◌≤◌, ◌+◌, ◌^◌, [], Option, None, IfOk, IfSome, OnErr, OnOk, is_some, length, min, slice_set, true};
+ghost use Rattle.std.specs.Prelude.{◌≡◌, ◌<◌, ◌≤◌, ◌+◌, ◌^◌, [], Option, None, Some, IfOk, IfSome, OnErr, OnOk, is_some, length, min, slice_set, true};
 ghost use Rattle.ipx_carrier.specs.Device.{received_in};
 ghost use Rattle.ipx_carrier.specs.PortDrivers.{copies_count, count_in};
 ghost use Rattle.ipx_carrier.specs.Readiness.{AsksPortWithMark, MarksStay};
-ghost use Rattle.ipx_ipxnet_ports.specs.OnServers.{HearsAtServer, PingsAtServer, PingsAtServers, ReceivesAtServer, SendsThroughServer, by_servers, is_any_pinged, servers_view, server_ports, packet_said};
+ghost use Rattle.ipx_ipxnet_ports.specs.OnServers.{HandsAnswerOn, HandsPacket, HandsPings, HearsAtServer, PingsAtServer, PingsAtServers, PingsThroughSockets, ReceivesAtServer, SendsThroughServer, by_servers, is_any_pinged, servers_view, server_ports, packet_said};
 ghost use Rattle.ipx_ipxnet_ports.specs.PlaceTraffic.{PlaceDatagram, place_datagram};
 ghost use Rattle.ipx_ipxnet_ports.specs.ServerCalls.{ReceivesByServers, SendsByServers};
 ghost use Rattle.ipxnet_server.specs.Pings.{IsNextPing};
@@ -95,6 +95,8 @@ impl<D: PlaceSockets + Drop> Servers<D> {
             (D.traffic self.old.sockets) (D.failed self.old.sockets))
             (servers_view self.new.servers.items self.new.kept
             (D.traffic self.new.sockets) (D.failed self.new.sockets)) }
+        ensures sends { HandsPings D.sends self.old.moment self.old.servers.items port
+            self.old.sockets self.new.sockets }
         ensures moment { self.new.moment ≡ self.old.moment }
         ensures kept { self.new.kept ≡ self.old.kept }
         ensures servers { length self.new.servers.items ≡ length self.old.servers.items }
@@ -120,6 +122,14 @@ impl<D: PlaceSockets + Drop> Servers<D> {
             (D.traffic self.old.sockets) (D.failed self.old.sockets))
             (servers_view self.new.servers.items self.new.kept
             (D.traffic self.new.sockets) (D.failed self.new.sockets)) }
+        // For each of these the sockets were handed just its pings.
+        ensures sends { PingsThroughSockets D.sends self.old.moment
+            (min (length self.old.servers.items) (D.port_count self.old.sockets))
+            (servers_view self.old.servers.items self.old.kept
+            (D.traffic self.old.sockets) (D.failed self.old.sockets))
+            (servers_view self.new.servers.items self.new.kept
+            (D.traffic self.new.sockets) (D.failed self.new.sockets))
+            self.old.sockets self.new.sockets }
         ensures moment { self.new.moment ≡ self.old.moment }
         ensures kept { self.new.kept ≡ self.old.kept }
         ensures servers { length self.new.servers.items ≡ length self.old.servers.items }
@@ -155,6 +165,9 @@ impl<D: PlaceSockets + Drop> Servers<D> {
             (D.traffic self.old.sockets) (D.failed self.old.sockets))
             (servers_view self.new.servers.items self.new.kept
             (D.traffic self.new.sockets) (D.failed self.new.sockets)) }
+        ensures sends { HandsPacket D.sends self.old.moment self.old.servers.items
+            (record { port = port; node = node; bytes = packet.now })
+            self.old.sockets self.new.sockets }
         ensures rest { self.new.moment ≡ self.old.moment }
         ensures ports { D.port_count self.new.sockets ≡ D.port_count self.old.sockets }
         ensures filtered { D.filtered self.new.sockets ≡ D.filtered self.old.sockets }
@@ -187,6 +200,9 @@ impl<D: PlaceSockets + Drop> Servers<D> {
             (D.traffic self.old.sockets) (D.failed self.old.sockets))
             (servers_view self.new.servers.items self.new.kept
             (D.traffic self.new.sockets) (D.failed self.new.sockets)) }
+        ensures sends { HandsAnswerOn D.sends self.old.moment self.old.servers.items
+            self.new.servers.items (Some (place_datagram port bytes.now from))
+            self.old.sockets self.new.sockets }
         ensures within { IfSome result (λ n. n ≤ length room.old) }
         ensures untouched { result ≡ None → room.new ≡ room.old }
         ensures rest { self.new.moment ≡ self.old.moment }
@@ -254,9 +270,9 @@ impl<D: PlaceSockets + Drop> PortDriver for Servers<D> {
 
     ghost marked = { λ l. D.marked l.sockets };
 
-    ghost receives = { ReceivesByServers D.traffic D.failed D.asks };
+    ghost receives = { ReceivesByServers D.traffic D.failed D.asks D.sends };
 
-    ghost sends = { SendsByServers D.traffic D.failed };
+    ghost sends = { SendsByServers D.traffic D.failed D.sends };
 
     ghost fails_to_receive = { λ l port size m. ⊥ };
 
@@ -280,7 +296,7 @@ impl<D: PlaceSockets + Drop> PortDriver for Servers<D> {
             (D.traffic self.old.sockets) (D.failed self.old.sockets))
             (servers_view self.new.servers.items self.new.kept
             (D.traffic self.new.sockets) (D.failed self.new.sockets))) }
-        ensures sends { OnOk result (SendsByServers D.traffic D.failed self.old
+        ensures sends { OnOk result (SendsByServers D.traffic D.failed D.sends self.old
             (record { port = port; node = node; bytes = packet.now }) self.new) }
         ensures goes_on { OnErr result ⊥ }
         ensures count { IfOk result (λ sent. count_in sent ≡ copies_count by_servers
@@ -299,8 +315,9 @@ impl<D: PlaceSockets + Drop> PortDriver for Servers<D> {
     fn receive(&mut self, port: usize, room: &mut [u8]) -> Result<Option<usize>, DeviceFault>
         requires there { port < min (length self.old.servers.items)
             (D.port_count self.old.sockets) }
-        // The sockets were asked at the port, and what they answered is received.
-        ensures receives { IfOk result (λ up. ReceivesByServers D.traffic D.failed D.asks
+        // The sockets were asked at the port. What they answered is received, and the sockets are
+        // handed what the server sends for it.
+        ensures receives { IfOk result (λ up. ReceivesByServers D.traffic D.failed D.asks D.sends
             self.old port (length room.old) (received_in room.new up) self.new) }
         // A datagram came from an address and the server received it, or none came, or the sockets
         // failed.

@@ -8,8 +8,8 @@ ghost use Rattle.ipx_carrier.specs.Counting.{raised};
 ghost use Rattle.ipx_carrier.specs.Readiness.{AsksPortWithMark};
 ghost use Rattle.ipx_carrier.specs.ReadySet.{is_port_marked};
 ghost use Rattle.ipx_carrier.specs.Traces.{Got, TriesToReceive};
-ghost use Rattle.ipx_ipxnet_ports.specs.ServerAddresses.{AsksMarkedPort, RefusesToPlace, SendsToPlace, bound_places, prefixes_heard, ipv4_of_place, is_ip_heard, listed_prefixes, place_heard, server_events, server_fds, with_place};
-ghost use Rattle.ipx_ipxnet_ports.specs.PlaceTraffic.{failures_with};
+ghost use Rattle.ipx_ipxnet_ports.specs.ServerAddresses.{AsksMarkedPort, RefusesToPlace, SendsByServerSockets, SendsToPlace, bound_places, prefixes_heard, ipv4_of_place, is_ip_heard, listed_prefixes, place_heard, server_events, server_fds, with_place};
+ghost use Rattle.ipx_ipxnet_ports.specs.PlaceTraffic.{failures_with, place_datagram};
 
 use crate::allow::Allow;
 use crate::place_sockets::{DatagramCame, PlaceSockets};
@@ -188,7 +188,7 @@ impl ServerSockets {
 
 impl PlaceSockets for ServerSockets {
     ghost use Rattle.std.specs.Prelude.{None};
-    ghost use Rattle.ipx_ipxnet_ports.specs.ServerAddresses.{AsksServerSockets};
+    ghost use Rattle.ipx_ipxnet_ports.specs.ServerAddresses.{AsksServerSockets, SendsByServerSockets};
 
     ghost port_count = { λ s. length s.sockets.items };
 
@@ -202,6 +202,8 @@ impl PlaceSockets for ServerSockets {
     ghost marked = { λ s. is_port_marked s.marks };
 
     ghost asks = { AsksServerSockets };
+
+    ghost sends = { SendsByServerSockets };
 
     fn ports(&self) -> usize {
         self.sockets.len()
@@ -223,6 +225,8 @@ impl PlaceSockets for ServerSockets {
             self.new.sockets.items) }
         ensures nowhere { OnErr result (RefusesToPlace port place bytes.now self.old.sockets.items
             self.new.sockets.items) }
+        ensures sends { SendsByServerSockets self.old (place_datagram port bytes.now place)
+            self.new }
         // The system took it or refused it, and that is counted.
         ensures sent { OnOk result (self.new.sent ≡ raised self.old.sent) }
         ensures refused { OnErr result (self.new.sent ≡ self.old.sent) }

@@ -30,13 +30,13 @@ module _ {D E L : Type 0} {gd : OfDevice.Ghosts D} {ge : OfSockets.Ghosts E} {gl
     receives_datagrams (Err f) there e s h p = tt
 
     pub receives_ethernet : {F : Type 0} (r : Result (Option ℕ) F) → slice_get old.port_indices.items port ≡ Some (Ethernet k) → new.datagrams ≡ old.datagrams → new.servers ≡ old.servers
-        → IfOk r (λ n. ReceivesByEthernet ge.ends_of ge.traffic ge.failed ge.asks old.ethernet k size (received_in room n) new.ethernet)
+        → IfOk r (λ n. ReceivesByEthernet ge.ends_of ge.traffic ge.failed ge.asks ge.sends old.ethernet k size (received_in room n) new.ethernet)
         → IfOk r (λ n. ReceivesAtPort old port size (received_in room n) new)
     receives_ethernet (Ok n) there d s h = at_index (Ethernet k) n there (h, d, s, stay)
     receives_ethernet (Err f) there d s h = tt
 
     pub receives_servers : {F : Type 0} (r : Result (Option ℕ) F) → slice_get old.port_indices.items port ≡ Some (IpxnetServer k) → new.datagrams ≡ old.datagrams → new.ethernet ≡ old.ethernet
-        → IfOk r (λ n. ReceivesByServers gl.traffic gl.failed gl.asks old.servers k size (received_in room n) new.servers)
+        → IfOk r (λ n. ReceivesByServers gl.traffic gl.failed gl.asks gl.sends old.servers k size (received_in room n) new.servers)
         → IfOk r (λ n. ReceivesAtPort old port size (received_in room n) new)
     receives_servers (Ok n) there d e h = at_index (IpxnetServer k) n there (h, d, e, stay)
     receives_servers (Err f) there d e h = tt
@@ -53,13 +53,13 @@ module _ {D E L : Type 0} {gd : OfDevice.Ghosts D} {ge : OfSockets.Ghosts E} {gl
     sends_datagrams (Err f) there e s h passes = tt
 
     pub sends_ethernet : {T F : Type 0} (r : Result T F) → slice_get old.port_indices.items p.port ≡ Some (Ethernet k) → new.datagrams ≡ old.datagrams → new.servers ≡ old.servers
-        → OnOk r (SendsByEthernet ge.ends_of ge.traffic ge.failed old.ethernet (given_at k p) new.ethernet)
+        → OnOk r (SendsByEthernet ge.ends_of ge.traffic ge.failed ge.sends old.ethernet (given_at k p) new.ethernet)
         → OnOk r (SendsByPort old p new)
     sends_ethernet (Ok t) there d s h = of_index (Ethernet k) there (h, d, s, stay)
     sends_ethernet (Err f) there d s h = tt
 
     pub sends_servers : {T F : Type 0} (r : Result T F) → slice_get old.port_indices.items p.port ≡ Some (IpxnetServer k) → new.datagrams ≡ old.datagrams → new.ethernet ≡ old.ethernet
-        → OnOk r (SendsByServers gl.traffic gl.failed old.servers (given_at k p) new.servers)
+        → OnOk r (SendsByServers gl.traffic gl.failed gl.sends old.servers (given_at k p) new.servers)
         → OnOk r (SendsByPort old p new)
     sends_servers (Ok t) there d e h = of_index (IpxnetServer k) there (h, d, e, stay)
     sends_servers (Err f) there d e h = tt

@@ -26,7 +26,7 @@ module _ {D E L : Type 0} {gd : OfDevice.Ghosts D} {ge : OfSockets.Ghosts E} {gl
 
   -- a port with this index was asked, into a buffer of this size, and gave this answer. At an RFC 1234 port the
   -- device received it. At an Ethernet or ipxnet port the sockets were asked, and its switch or server received
-  -- what they answered
+  -- what they answered. The sockets were handed what is sent on for that, and nothing else
   abbrev pub ReceivesByKind : Option PortIndex → RouterPorts D E L gd ge gl → ℕ → Option (List ℕ) → RouterPorts D E L gd ge gl → Type 0
   ReceivesByKind None old size answer new = ⊥
   ReceivesByKind (Some (Datagrams k)) old size answer new =
@@ -34,10 +34,10 @@ module _ {D E L : Type 0} {gd : OfDevice.Ghosts D} {ge : OfSockets.Ghosts E} {gl
       × Passes (gd.traffic old.datagrams.device) (gd.traffic new.datagrams.device) (record { port = k; bytes = answer } ∷ []) []
       × (new.ethernet ≡ old.ethernet) × (new.servers ≡ old.servers) × StayIndexed old new
   ReceivesByKind (Some (Ethernet k)) old size answer new =
-      ReceivesByEthernet ge.ends_of ge.traffic ge.failed ge.asks old.ethernet k size answer new.ethernet
+      ReceivesByEthernet ge.ends_of ge.traffic ge.failed ge.asks ge.sends old.ethernet k size answer new.ethernet
       × (new.datagrams ≡ old.datagrams) × (new.servers ≡ old.servers) × StayIndexed old new
   ReceivesByKind (Some (IpxnetServer k)) old size answer new =
-      ReceivesByServers gl.traffic gl.failed gl.asks old.servers k size answer new.servers
+      ReceivesByServers gl.traffic gl.failed gl.asks gl.sends old.servers k size answer new.servers
       × (new.datagrams ≡ old.datagrams) × (new.ethernet ≡ old.ethernet) × StayIndexed old new
 
   -- a packet was sent by a port with this index: as its datagrams, as a frame, or through an ipxnet server
@@ -49,10 +49,10 @@ module _ {D E L : Type 0} {gd : OfDevice.Ghosts D} {ge : OfSockets.Ghosts E} {gl
       × Passes (gd.traffic old.datagrams.device) (gd.traffic new.datagrams.device) [] (datagrams_of old k p)
       × (new.ethernet ≡ old.ethernet) × (new.servers ≡ old.servers) × StayIndexed old new
   SendsByKind (Some (Ethernet k)) old p new =
-      SendsByEthernet ge.ends_of ge.traffic ge.failed old.ethernet (given_at k p) new.ethernet
+      SendsByEthernet ge.ends_of ge.traffic ge.failed ge.sends old.ethernet (given_at k p) new.ethernet
       × (new.datagrams ≡ old.datagrams) × (new.servers ≡ old.servers) × StayIndexed old new
   SendsByKind (Some (IpxnetServer k)) old p new =
-      SendsByServers gl.traffic gl.failed old.servers (given_at k p) new.servers
+      SendsByServers gl.traffic gl.failed gl.sends old.servers (given_at k p) new.servers
       × (new.datagrams ≡ old.datagrams) × (new.ethernet ≡ old.ethernet) × StayIndexed old new
 
   -- the same by the port's number, and of the answer of a port

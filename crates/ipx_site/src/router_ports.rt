@@ -6,7 +6,7 @@ ghost use Rattle.ipx_carrier.specs.Readiness.{AsksPortWithMark, MarksStay};
 ghost use Rattle.ipx_carrier.specs.RunFaultNumbers.{device_failures};
 ghost use Rattle.ipx_carrier.specs.PortDrivers.{SendsFrontOf, copies_count, count_in};
 ghost use Rattle.ipx_carrier.specs.Turns.{copies_of, peers_of};
-ghost use Rattle.ipx_ipxnet_ports.specs.OnServers.{PingsAtServers, servers_view, server_ports};
+ghost use Rattle.ipx_ipxnet_ports.specs.OnServers.{PingsAtServers, PingsThroughSockets, servers_view, server_ports};
 ghost use Rattle.ipx_site.specs.RouterMarks.{marked_by_kind};
 ghost use Rattle.ipx_site.specs.RouterPorts.{by_kind, fits};
 
@@ -136,6 +136,14 @@ impl<D: Datagrams + Drop, E: EndSockets + Drop, L: PlaceSockets + Drop> RouterPo
             (L.traffic self.old.servers.sockets) (L.failed self.old.servers.sockets))
             (servers_view self.new.servers.servers.items self.new.servers.kept
             (L.traffic self.new.servers.sockets) (L.failed self.new.servers.sockets)) }
+        // Their sockets were handed just these.
+        ensures sends { PingsThroughSockets L.sends self.old.servers.moment
+            (min (length self.old.servers.servers.items) (L.port_count self.old.servers.sockets))
+            (servers_view self.old.servers.servers.items self.old.servers.kept
+            (L.traffic self.old.servers.sockets) (L.failed self.old.servers.sockets))
+            (servers_view self.new.servers.servers.items self.new.servers.kept
+            (L.traffic self.new.servers.sockets) (L.failed self.new.servers.sockets))
+            self.old.servers.sockets self.new.servers.sockets }
         ensures moment { self.new.servers.moment ≡ self.old.servers.moment }
         ensures kept { self.new.servers.kept ≡ self.old.servers.kept }
         ensures filtered { L.filtered self.new.servers.sockets ≡ L.filtered self.old.servers.sockets }

@@ -67,3 +67,41 @@ returns-clause-heard g c =
       servers = refl {a = slice_set servers c.args.port after};
       counted = refl {a = c.args.self.now.kept};
     }
+
+pub returns-then-not-is_for_core-clause-sends : goal.returns-then-not-is_for_core-clause-sends
+returns-then-not-is_for_core-clause-sends g c =
+    let servers = c.args.self.now.servers.items in
+    let server = c.index_mut-server.result.now in (
+      server,
+      c.hear-heard.new.self,
+      c.hear-heard.result,
+      slice_get_read servers (length servers) c.args.port server (refl {a = length servers}) c.requires.server c.index_mut-server.ensures.value,
+      refl {a = slice_set servers c.args.port c.hear-heard.new.self},
+      record {
+        malformed = c.hear-heard.ensures.malformed;
+        unread = c.hear-heard.ensures.unread;
+        packet = c.hear-heard.ensures.packet;
+        becomes = c.hear-heard.ensures.server;
+        stays = c.hear-heard.ensures.stays;
+      },
+      c.give_on.ensures.sends,
+    )
+
+pub returns-clause-sends : goal.returns-clause-sends
+returns-clause-sends g c =
+    let servers = c.args.self.now.servers.items in
+    let server = c.index_mut-server.result.now in (
+      server,
+      c.hear-heard.new.self,
+      c.hear-heard.result,
+      slice_get_read servers (length servers) c.args.port server (refl {a = length servers}) c.requires.server c.index_mut-server.ensures.value,
+      refl {a = slice_set servers c.args.port c.hear-heard.new.self},
+      record {
+        malformed = c.hear-heard.ensures.malformed;
+        unread = c.hear-heard.ensures.unread;
+        packet = c.hear-heard.ensures.packet;
+        becomes = c.hear-heard.ensures.server;
+        stays = c.hear-heard.ensures.stays;
+      },
+      c.give_on.ensures.sends,
+    )

@@ -14,7 +14,7 @@ returns-clause-receives g c =
       c.hear_datagram.result,
       came_from_place c.args.port c.receive.new.room (Some c.in-Some.came),
       refl,
-      asked_datagram g.D.PlaceSockets.asks c.args.port c.args.self.now.sockets c.receive.new.self c.hear_datagram.new.self.sockets c.receive.new.room c.receive.result c.receive.ensures.asked (search rules) c.in-Some.came (c.in-Ok.is ∙ ap Ok c.in-Some.is),
+      asked_datagram g.D.PlaceSockets.asks g.D.PlaceSockets.sends c.args.self.now.moment c.args.self.now.servers.items c.hear_datagram.new.self.servers.items c.args.port c.args.self.now.sockets c.receive.new.self c.hear_datagram.new.self.sockets c.receive.new.room c.receive.result c.receive.ensures.asked (search rules) c.in-Some.came (c.in-Ok.is ∙ ap Ok c.in-Some.is) c.hear_datagram.ensures.sends,
       hears_after _ _ _ _ _ _ _ _ _ _ _ _ c.in-Ok.ensures.failures first c.hear_datagram.ensures.heard,
       c.hear_datagram.ensures.rest,
     )

@@ -1,5 +1,6 @@
 use Rattle.std.proofs.Common.{◌≡◌, ℕ, List, None, ◌∙◌, ap, arith, length, min, subst}
-use Rattle.ipx_ipxnet_ports.specs.OnServers.{PingsAtServers, servers_view}
+use Rattle.ipx_ipxnet_ports.specs.OnServers.{PingsThroughSockets, servers_view}
+use Rattle.ipx_ipxnet_ports.specs.ServerAddresses.{SendsByServerSockets}
 use Rattle.ipx_ipxnet_ports.specs.declared.server_ports.Servers.{Servers}
 use Rattle.ipx_ipxnet_ports.specs.declared.sockets.ServerSockets.{ServerSockets}
 use Rattle.ipx_site.specs.PortsView.{ways_in}
@@ -19,10 +20,10 @@ returns-clause-core g c =
     let now = c.stop-now.result in
     let later = c.set_time.ensures in
     let e = c.send_pings.ensures in
-    let sends : ℕ → Servers ServerSockets → Type 0 = λ now l. PingsAtServers now (min (length l.servers.items) (length l.sockets.sockets.items))
-    (servers_view l.servers.items l.kept None l.sockets.failures) (ipxnet_in begun) in
+    let sends : ℕ → Servers ServerSockets → Type 0 = λ now l. PingsThroughSockets SendsByServerSockets now (min (length l.servers.items) (length l.sockets.sockets.items))
+    (servers_view l.servers.items l.kept None l.sockets.failures) (ipxnet_in begun) l.sockets begun.servers.sockets in
     let set = later.servers ∙ ap (λ p. record p.servers { moment = now }) c.keep.ensures.ports in
-    let sent : sends now self.ports.servers = subst (λ (l : Servers ServerSockets). sends l.moment l) set e.pings in
+    let sent : sends now self.ports.servers = subst (λ (l : Servers ServerSockets). sends l.moment l) set e.sends in
     let begins : BeginsTurns now self.ports begun = (
       sent,
       e.pinged,
