@@ -1,6 +1,6 @@
 -- The connections that a listening host holds, as they are accepted, heard from and released. Nothing here is
 -- from a public standard.
-use Rattle.std.specs.Prelude.{◌≡◌, ◌≤◌, ◌↔◌, ◌⊎◌, ◌==◌, ◌&&◌, ◌||◌, ◌+◌, ◌-◌, ℕ, Bool, true, false, not, IsTrue, List, [], ◌∷◌, ◌++◌, length, map, filter, position, remove, count_by, slice_get, slice_set, nat_eq, nat_le, nat_lt, is_some, Option, Some, None, IfSome, MatchOption, if◌then◌else◌}
+use Rattle.std.specs.Prelude.{◌≡◌, ◌≢◌, ◌≤◌, ◌↔◌, ◌⊎◌, ◌==◌, ◌&&◌, ◌||◌, ◌+◌, ◌-◌, ℕ, Bool, true, false, not, IsTrue, List, [], ◌∷◌, ◌++◌, length, map, filter, position, remove, count_by, slice_get, slice_set, nat_eq, nat_le, nat_lt, is_some, Option, Some, None, IfSome, MatchOption, if◌then◌else◌}
 use Rattle.std.specs.List.{list_any}
 use Rattle.std.specs.Cmp.Lexicographic.{pointwise}
 use Rattle.std.specs.Coded.{Unit-prop}
@@ -40,10 +40,10 @@ heard_by id now c = if c.id == id then once_heard now c else c
 abbrev pub session_of : Accepted → ℕ → Session
 session_of a now = record { id = a.id; from = a.from; heard = now; phase = Standings.New }
 
--- the link of an id is released, with its partial message, and nothing else changes. If there is none,
--- nothing changes
+-- the link of an id is there and is released, with its partial message, and nothing else changes. If there is
+-- none, nothing changes
 pub record LetsLinkGo (old new : EndpointView) (id : ℕ) : Type 0 where
-  pub goes : ReleasesEnd old new id ⊎ ((held_at old id ≡ None) × SameBut old new)
+  pub goes : ((held_at old id ≢ None) × ReleasesEnd old new id) ⊎ ((held_at old id ≡ None) × SameBut old new)
   pub said : new.said ≡ old.said
   pub heard : new.heard ≡ old.heard
 
