@@ -70,7 +70,10 @@ fn pings_that_the_router_leaves(rt: HostRuntime) -> Result<(), Fail> {
         Disposition::ToClient(third_place())
     );
     bytes[10..16].copy_from_slice(&PORT.own.0);
-    assert_eq!(rt; server.hear(first_place(), &bytes, 0), Disposition::PingAnswered);
+    assert_eq!(rt;
+        server.hear(first_place(), &bytes, 0),
+        Disposition::PingAnswered
+    );
     let mut elsewhere = PING;
     elsewhere[9] = 0x99;
     let dropped = server.hear(first_place(), &elsewhere, 0);
