@@ -57,11 +57,11 @@ returns-clause-sends g c =
       | in-Err w ↦ rw w.takers-is (ap takers_given w.in-Err.is)
     ] in
     let sends = g.D.PlaceSockets.sends in
-    let both : SendsEach sends (packet_sends port packet after given_to) c.args.self.now.sockets _ =
+    let both : SendsEach sends (packet_sends port packet after given_to) c.args.self.now.sockets c.send_to_routers.new.sockets =
     sends_on sends (relayed_to port packet (clients_reached after given_to)) (relayed_on port packet (routers_reached after given_to)) _ _ _ c.send_to_clients.ensures.sends c.send_to_routers.ensures.sends in (
       server,
       given,
       slice_get_read servers (length servers) c.args.port server (refl {a = length servers}) c.requires.server c.index_mut-server.ensures.value,
       record { malformed = c.give.ensures.malformed; packet = c.give.ensures.packet },
-      subst (λ (l : ServerView). SendsEach sends (packet_sends port packet l (takers_given given)) c.args.self.now.sockets _) c.give.ensures.server (rw takers both),
+      subst (λ (l : ServerView). SendsEach sends (packet_sends port packet l (takers_given given)) c.args.self.now.sockets c.send_to_routers.new.sockets) c.give.ensures.server (rw takers both),
     )
