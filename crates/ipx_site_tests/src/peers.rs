@@ -37,6 +37,10 @@ impl Datagrams for Fountain {
 
     ghost sends = { λ d datagram e. Unit {0} };
 
+    ghost fails_to_receive = { λ d port size e. Unit {0} };
+
+    ghost fails_to_send = { λ d datagram e. Unit {0} };
+
     fn ports(&self) -> usize {
         1
     }

@@ -1,7 +1,18 @@
-use Rattle.std.proofs.Common.{ap, inl, rules, subst, sym}
+use Rattle.std.proofs.Common.{⊥, ap, inl, inr, rules, subst, sym}
+use Rattle.ipx_rate_limits.specs.declared.querier.QueryDrops.{QueryDrops}
 use Rattle.ipx_rate_limits.specs.TokenBuckets.{TokenBucketsView, HasToken}
 use Rattle.ipx_rate_limits.specs.RateLimiter.{HearsQuery, IsGeneralQuery, RateLimiterView}
 use Rattle.ipx_rate_limits.proofs.rate_limiter.RateLimiter.hear_query.Goals as goal
+
+pub returns-then-not-has_token-clause-heard : goal.returns-then-not-has_token-clause-heard
+returns-then-not-has_token-clause-heard g c =
+    let inside = c.self.inside in
+    let who = c.args.querier in
+    let by : QueryDrops → RateLimiterView g.row.C.Denot = λ drops. record { core = inside.core; ports = inside.ports.items; buckets = inside.buckets; kept = drops; directed = inside.directed } in
+    let query = subst (λ (v : RateLimiterView g.row.C.Denot). IsGeneralQuery v.ports c.args.port c.args.bytes.now who) (sym c.self.view_is) c.requires.asks in
+    let none : HasToken inside.buckets who c.args.now → ⊥ = search rules in
+    subst (λ (v : RateLimiterView g.row.C.Denot). HearsQuery g.C.Core.hears v c.args.port c.args.bytes.now c.args.now (by c.saturating_increment.new.self)) c.self.view_is
+    (inr (who, query, none, ap by c.saturating_increment.ensures))
 
 pub returns-clause-heard : goal.returns-clause-heard
 returns-clause-heard g c =
