@@ -1,4 +1,4 @@
-use Rattle.std.proofs.Common.{⊥, ap, inl, inr, rules, subst, sym}
+use Rattle.std.proofs.Common.{ap, inl, inr, rules, subst, sym}
 use Rattle.ipx_rate_limits.specs.declared.querier.QueryDrops.{QueryDrops}
 use Rattle.ipx_rate_limits.specs.TokenBuckets.{TokenBucketsView, HasToken}
 use Rattle.ipx_rate_limits.specs.RateLimiter.{HearsQuery, IsGeneralQuery, RateLimiterView}
