@@ -1,11 +1,7 @@
 -- Totals over the servers of a router's ports for ipxnet. Defined by this project.
-use Rattle.std.specs.Prelude.{ℕ, List, length, sum_by}
+use Rattle.std.specs.Prelude.{ℕ, List, sum_by}
 use Rattle.ipx_carrier.specs.Counting.{counted}
 use Rattle.ipxnet_server.specs.ServerHears.{ServerView}
-
--- the clients of all ports
-abbrev pub clients_in : List ServerView → ℕ
-clients_in servers = counted (sum_by (λ s. length s.clients) servers)
 
 -- the datagrams of new players that were dropped because all places of their port were taken
 abbrev pub full_in : List ServerView → ℕ

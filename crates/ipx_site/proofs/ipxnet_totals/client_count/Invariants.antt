@@ -1,6 +1,0 @@
-use Rattle.std.proofs.Common.{◌≡◌, take}
-use Rattle.ipx_site.specs.IpxnetTotals.{clients_in}
-use Rattle.ipx_site.proofs.ipxnet_totals.client_count.Given as goal
-
-abbrev pub invariant-loop-server : goal.invariant-loop-server
-invariant-loop-server l = l.total ≡ clients_in (take l.server-index l.servers)
