@@ -33,4 +33,3 @@ pub mod FrameFamilies
 pub mod IpxnetFamilies
 pub mod KindMetrics
 pub mod MetricsPage
-pub mod MetricsFile

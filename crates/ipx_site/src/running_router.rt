@@ -7,7 +7,6 @@ ghost use Rattle.ipx_site.specs.DropLog.{AreDropsLogged};
 ghost use Rattle.ipx_sockets.specs.Moments.{IsTimeUntilDue, AreLoggedIfDue, IsReached};
 ghost use Rattle.ipx_site.specs.IdleTime.{IsDue, IsToSend, deadlines, counts_to_log, happened, happened_in, look_after};
 ghost use Rattle.ipx_site.specs.KnownFile.{TellsKnown};
-ghost use Rattle.ipx_site.specs.MetricsFile.{IsMetricsFile};
 ghost use Rattle.ipx_sockets.specs.PollEvents.{Waited};
 ghost use Rattle.ipx_sockets.specs.AccessLists.{access_by};
 ghost use Rattle.ipx_site.specs.PortsView.{ways_in};
@@ -153,10 +152,7 @@ impl<'a, R: SystemClock> RunningRouter<'a, R> {
     }
 
     /// The text of its metrics file.
-    fn metrics_text(&self, alloc: Global, now: u64) -> Result<String, AllocError>
-        ensures { IfOk result (λ t. IsMetricsFile self.now.totals self.now.core self.now.ports
-            self.now.route_changes now (string_bytes t)) }
-    {
+    fn metrics_text(&self, alloc: Global, now: u64) -> Result<String, AllocError> {
         let core = self.core.core().core().core();
         let ethernet = ethernet_metrics(alloc, &self.ports)?;
         let ipxnet = ipxnet_metrics(alloc, &self.ports)?;
