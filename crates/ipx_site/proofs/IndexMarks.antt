@@ -149,7 +149,7 @@ no_fewer_ports earlier x (IpxnetServer k) = omega (arith, ap length (flat_map-ap
 
 own_counted : (earlier : List PortConfig) (x : PortConfig) → port_index_place (port_index_after earlier x) < counted_for (earlier ++ x ∷ []) (port_index_after earlier x)
 own_counted earlier (Rfc1234 p) = omega (arith, ap length (flat_map-append datagrams_in earlier (Rfc1234 p ∷ [])), length-append (datagram_ports earlier) (datagram_ports (Rfc1234 p ∷ [])))
-own_counted earlier (configs.Ethernet p) = omega (arith, ap length (flat_map-append ethernet_ports_in earlier (Frames p ∷ [])), length-append (ethernet_ports earlier) (ethernet_ports (Frames p ∷ [])))
+own_counted earlier (configs.Ethernet p) = omega (arith, ap length (flat_map-append ethernet_ports_in earlier (configs.Ethernet p ∷ [])), length-append (ethernet_ports earlier) (ethernet_ports (configs.Ethernet p ∷ [])))
 own_counted earlier (Ipxnet p) = omega (arith, ap length (flat_map-append ipxnet_in earlier (Ipxnet p ∷ [])), length-append (ipxnet_ports earlier) (ipxnet_ports (Ipxnet p ∷ [])))
 
 -- the index of the next port is not one of those below

@@ -54,7 +54,7 @@ pinging pings (Some m) t h less = (λ k. h t less ∙ le-leb m t k, λ e. leb-tr
 -- the time with nothing to do is the same for two conditions that agree at each time that a clock can show
 pub as_long : (P Q : ℕ → Type 0) (now time : ℕ) → ((t : ℕ) → t < 2 ^ 64 → P t ↔ Q t) → IsTimeUntilDue P now time → IsTimeUntilDue Q now time
 as_long P Q now time e l = record {
-  max_clients = l.max_clients;
+  most = l.most;
   nothing = λ t a b h q. l.nothing t a b h ((e t h).1 q);
   something = λ h. let s = l.something h in (s.0, (e (now + time) s.0).0 s.1);
 }
