@@ -12,7 +12,7 @@ from system_world import Pair, wait
 FULL, FULL_PEER, READ, READ_PEER = "127.96.0.1", "127.96.0.2", "127.96.0.3", "127.96.0.4"
 UNWRITTEN = re.compile(r"\[WARN +ipx\] \d+ failed writes? of metrics_file, tables_file or secret_file \(\d+ since the start\)(, .*)?")
 UNIT = "ipx-route@.service"
-METRICS_FILE = 'ipx_errors_total{kind="metrics_file"}'
+METRICS_FILE = 'ipx_errors_total{kind="file"}'
 NOBODY = 65534
 BIND_ALONE = "0000000000000400"
 

@@ -19,6 +19,7 @@ use Rattle.ipx_router.specs.Classify.{is_node}
 use Rattle.ipx_tables.specs.declared.source.Source.{Source}
 use Rattle.ipx_inspect.specs.ShowLine.{address_text, word_text}
 use Rattle.ipx_table_dump.specs.TableText.{by_text, network_word}
+use Rattle.ipx_config.specs.Destinations.{is_of_no_machine}
 use Rattle.ipx_config.specs.declared.ipxnet_port.Peer.{Peer}
 use Rattle.ipx_config.specs.declared.ipxnet_port.Peer.TheVariants.{Host, Prefix}
 use Rattle.ipx_config.specs.declared.statics.StaticEntry.{StaticEntry}
@@ -152,12 +153,6 @@ port_texts number (p ∷ ps) = port_text number p ∷ port_texts (number + 1) ps
 -- the words before a remark about it
 abbrev pub port_words : ℕ → List ℕ
 port_words number = codes "port " ++ (decimal number ++ codes ": ")
-
--- no machine can have this IP address. Its first number is 0 (this network), or 224 and more (multicast,
--- reserved and broadcast)
-abbrev pub is_of_no_machine : List ℕ → Bool
-is_of_no_machine [] = false
-is_of_no_machine (first ∷ rest) = (first == 0) || nat_le 224 first
 
 -- the remark about a peer that is the port's own address, repeats an earlier peer, or can belong to no
 -- machine; empty for any other peer. It begins with `whose`

@@ -1,7 +1,9 @@
 -- The valid bytes of a file, and the exit status of a fault. Defined by this project.
 use Rattle.std.specs.Prelude.{◌≡◌, ◌≤◌, ◌⊎◌, ℕ, List, IsUtf8, length}
+use Rattle.ipx_config.specs.Values.{Spares}
 use Rattle.ipx_config.specs.declared.fault.ConfigError.{ConfigError}
 use Rattle.ipx_config.specs.declared.fault.ConfigError.TheVariants.{Again, Missing, NotToml, OtherKind, OutOfMemory, SamePlace, Twin, Unknown, Wrong}
+use Rattle.ipx_config.specs.declared.site.RouterConfig.{RouterConfig}
 
 -- the bytes of a file are a text: at most 65,536 of them, in UTF-8
 abbrev pub IsFileText : List ℕ → Type 0
@@ -23,3 +25,8 @@ fault_status (Again table earlier) = 2
 abbrev pub IsStatus : (ConfigError → Type 0) → List ℕ → ℕ → Type 0
 IsStatus IsFault bytes status = (status ≡ 1)
     ⊎ ((status ≡ 2) × ((IsFileText bytes → ⊥) ⊎ ((f : ConfigError) × IsFault f)))
+
+-- none of the files that a router writes overwrites the file of this name
+abbrev pub WritesOtherFiles : List ℕ → RouterConfig → Type 0
+WritesOtherFiles path s =
+    Spares s.metrics_file path × Spares s.tables_file path × Spares s.secret_file path

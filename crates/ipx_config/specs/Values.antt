@@ -60,15 +60,17 @@ temporary_name name = name ++ codes ".new"
 abbrev pub AreDistinctFiles : List ℕ → List ℕ → Type 0
 AreDistinctFiles one two = (one ≢ two) × (one ≢ temporary_name two) × (two ≢ temporary_name one)
 
--- the same, and it does not overwrite a file of this other name, if there is one
+-- writing a file, if it has a name, does not overwrite a file of this other name
+abbrev pub Spares : Option (String Global) → List ℕ → Type 0
+Spares name other = MatchOption name ⊤ (λ it. AreDistinctFiles (string_bytes it) other)
+
+-- a string that can name a file, and does not overwrite the file of this other name, if there is one
 abbrev pub IsOtherFileName : Option (String Global) → Data → String Global → Type 0
-IsOtherFileName other d name = IsFileName d name
-    × MatchOption other ⊤ (λ it. AreDistinctFiles (string_bytes it) (string_bytes name))
+IsOtherFileName other d name = IsFileName d name × Spares other (string_bytes name)
 
 -- the same of two other files
 abbrev pub IsThirdFileName : Option (String Global) → Option (String Global) → Data → String Global → Type 0
-IsThirdFileName first second d name = IsOtherFileName first d name
-    × MatchOption second ⊤ (λ it. AreDistinctFiles (string_bytes it) (string_bytes name))
+IsThirdFileName first second d name = IsOtherFileName first d name × Spares second (string_bytes name)
 
 abbrev pub accept_text : Accept → List ℕ
 accept_text Peers = codes "peers"

@@ -3,11 +3,12 @@
 ghost use Rattle.std.specs.Prelude.{◌≡◌, ◌<◌, ◌≤◌, ◌++◌, ℕ, List, [], IfErr, IfOk, IsOkAnd, OnOk, length, string_bytes};
 ghost use Rattle.std.specs.Io.KnownBytes.{Appends};
 ghost use Rattle.std.specs.List.{flat_map};
-ghost use Rattle.ipx_config.specs.Checked.{count_text, each_after, file_line, file_name_text, ignored_remark, is_of_no_machine, joined_remark, node_remark, peer_line, peer_remark, port_lines, reached_remarks, site_lines, status_text, ethernet_end_remark};
+ghost use Rattle.ipx_config.specs.Checked.{count_text, each_after, file_line, file_name_text, ignored_remark, joined_remark, node_remark, peer_line, peer_remark, port_lines, reached_remarks, site_lines, status_text, ethernet_end_remark};
 ghost use Rattle.ipx_config.specs.Loading.{IsFileText};
 ghost use Rattle.ipx_config.specs.Site.{IsSiteText};
 ghost use Rattle.ipx_config.specs.declared.site.RouterConfig.{RouterConfig as ASiteFile};
 
+use crate::destination::is_of_no_machine;
 use crate::equality::{is_same_ip, is_same_node};
 use crate::escaped::Escaped;
 use crate::ethernet_values::station_at;
@@ -21,14 +22,6 @@ use std::alloc::{AllocError, Global};
 use std::io::Write;
 use std::net::SocketAddrV4;
 use std::rt::Files;
-
-/// Whether no machine can have this IP address: it is in 0.0.0.0/8, multicast, reserved or
-/// broadcast.
-fn is_of_no_machine(ip: [u8; 4]) -> bool
-    ensures { result ≡ is_of_no_machine ip }
-{
-    ip[0] == 0 || ip[0] >= 224
-}
 
 /// The remark about a peer that follows the `earlier` peers; empty if there is none.
 fn peer_to_remark(

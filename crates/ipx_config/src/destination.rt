@@ -1,7 +1,8 @@
 //! The addresses to which the host of a file sends.
 
 ghost use Rattle.std.specs.Prelude.{◌≡◌};
-ghost use Rattle.ipx_config.specs.Destinations.{dialed_ip, peer_address_of, is_nowhere, is_on_own_network};
+ghost use Rattle.ipx_config.specs.Destinations.{dialed_ip, peer_address_of, is_nowhere, is_of_no_machine, is_of_nobody, is_on_own_network};
+ghost use Rattle.ipx_carrier.specs.Mapping.{ip_at};
 
 use crate::host::HostConfig;
 use ipx_carrier::ip_of;
@@ -30,12 +31,30 @@ pub fn is_on_own_network(file: &HostConfig, to: Address) -> bool
     to.network == file.network || to.network == Network::LOCAL
 }
 
+/// Whether no machine can have this IP address: it is in 0.0.0.0/8, multicast, reserved or
+/// broadcast.
+pub(crate) fn is_of_no_machine(ip: [u8; 4]) -> bool
+    ensures { result ≡ is_of_no_machine ip }
+{
+    ip[0] == 0 || ip[0] >= 224
+}
+
+/// Whether a node has no IP address, or one that no machine can have.
+fn is_of_nobody(node: Node) -> bool
+    ensures { result ≡ is_of_nobody (ip_at node) }
+{
+    match ip_of(node) {
+        Ok(ip) => is_of_no_machine(ip),
+        Err(_) => true,
+    }
+}
+
 /// Returns whether an address can't be reached: it is a node on the host's own network that has no
-/// IP address.
+/// IP address, or one that no machine can have.
 pub fn is_nowhere(file: &HostConfig, to: Address) -> bool
     ensures { result ≡ is_nowhere file.now to }
 {
-    is_on_own_network(file, to) && ip_of(to.node).is_err()
+    is_on_own_network(file, to) && is_of_nobody(to.node)
 }
 
 /// Prints that a node on the network of a file's host can't be reached, and returns status 2.
@@ -43,7 +62,7 @@ pub fn tell_nowhere<R: Eprint>(rt: &R, path: &str, node: Node) -> u8
     ensures { result ≡ 2 }
 {
     let _ = eprintln!(rt;
-        "node {node} names no IP address: on the network of {path} a node is 0000 and an IP address in hex"
+        "node {node} is no host's IP address: on the network of {path} a node is 0000 and an IP address in hex"
     );
     2
 }

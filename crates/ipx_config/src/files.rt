@@ -1,18 +1,21 @@
 //! Reading configuration files.
 
-ghost use Rattle.std.specs.Prelude.{◌≡◌, ◌⊎◌, ℕ, List, All, Err, IfErr, IfOk};
+ghost use Rattle.std.specs.Prelude.{◌≡◌, ◌↔◌, ◌⊎◌, ⊥, ℕ, List, All, Err, IfErr, IfOk, IsTrue, None, OnOk};
 ghost use Rattle.ipx_router.specs.NewRouter.{IsOwnNetwork};
 ghost use Rattle.ipx_config.specs.StaticLists.{HearsAtPorts};
 ghost use Rattle.ipx_config.specs.Host.{IsHostText, IsHostTextFault};
-ghost use Rattle.ipx_config.specs.Loading.{IsFileText, IsStatus, fault_status};
+ghost use Rattle.ipx_config.specs.Loading.{IsFileText, IsStatus, WritesOtherFiles, fault_status};
 ghost use Rattle.ipx_config.specs.SitePorts.{router_ports};
 ghost use Rattle.ipx_config.specs.Site.{IsSiteText, IsSiteTextFault};
+ghost use Rattle.ipx_config.specs.Values.{Spares};
 
 use crate::fault::ConfigError;
 use crate::fault_line::FaultLine;
 use crate::host::{HostConfig, read_host};
+use crate::key::Key;
 use crate::reading::read_site;
 use crate::site::RouterConfig;
+use crate::values::are_distinct;
 use ipx_inspect::{InputFault, read_up_to};
 use std::alloc::Global;
 use std::fs::File;
@@ -136,6 +139,45 @@ pub(crate) fn host_in<R: Eprint>(
     }
 }
 
+/// Whether writing a file, if it has a name, leaves the file of another name as it is.
+fn spares(name: &Option<String>, other: &str) -> bool
+    ensures { IsTrue result ↔ Spares name.now other.now }
+{
+    match name {
+        Some(name) => are_distinct(name, other),
+        None => true,
+    }
+}
+
+/// The first key of a router's file by which the router would overwrite that file.
+fn overwriting_key(path: &str, site: &RouterConfig) -> Option<Key>
+    ensures { result ≡ None ↔ WritesOtherFiles path.now site.now }
+{
+    if !spares(&site.metrics_file, path) {
+        return Some(Key::MetricsFile);
+    }
+    if !spares(&site.tables_file, path) {
+        return Some(Key::TablesFile);
+    }
+    if !spares(&site.secret_file, path) {
+        return Some(Key::SecretFile);
+    }
+    None
+}
+
+/// Refuses a router's file by which the router would overwrite that file.
+fn refuse_overwriting<R: Eprint>(rt: &R, path: &str, site: &RouterConfig) -> Result<(), u8>
+    ensures spares { OnOk result (WritesOtherFiles path.now site.now) }
+    ensures fault { IfErr result (λ status. (status ≡ 2) × (WritesOtherFiles path.now site.now → ⊥)) }
+{
+    let Some(key) = overwriting_key(path, site) else {
+        return Ok(());
+    };
+    let key = key.text();
+    let _ = eprintln!(rt; "{path}: {key} would overwrite this file: name another file");
+    Err(2)
+}
+
 /// Reads the file of a router. A fault is reported in one line on standard error that begins with
 /// the path. The error is the exit status: 2, or 1 if out of memory.
 pub fn load_site<R: Files + Eprint>(rt: &R, alloc: Global, path: &str) -> Result<RouterConfig, u8>
@@ -143,10 +185,14 @@ pub fn load_site<R: Files + Eprint>(rt: &R, alloc: Global, path: &str) -> Result
     ensures site { IfOk result (λ s. (text : List ℕ) × IsFileText text × IsSiteText text s) }
     ensures own { IfOk result (λ s. All IsOwnNetwork (router_ports s.ports.items)) }
     ensures there { IfOk result HearsAtPorts }
+    // The router does not overwrite this file.
+    ensures spares { IfOk result (WritesOtherFiles path.now) }
     ensures fault { IfErr result (λ status. (status ≡ 1) ⊎ (status ≡ 2)) }
 {
     let bytes = read_bytes(rt, alloc, path, MAX + 1)?;
-    site_in(rt, alloc, path, &bytes)
+    let site = site_in(rt, alloc, path, &bytes)?;
+    refuse_overwriting(rt, path, &site)?;
+    Ok(site)
 }
 
 /// Reads the file of a host, as `load_site` does that of a router.

@@ -31,13 +31,14 @@ impl fmt::Display for TargetFault {
                 "NODE must be twelve hex digits, such as 00007f000104 for IP address 127.0.1.4: \
                  0000, and then its four bytes in hex"
             },
-            TargetFault::Socket => "SOCKET must be four hex digits, such as 4002",
+            TargetFault::Socket => "SOCKET must be four hex digits other than 0000, such as 4002",
         })
     }
 }
 
 impl Target<'_> {
-    /// Parses the address. It is eight, twelve and four hex digits, and nothing else.
+    /// Parses the address. It is eight, twelve and four hex digits, and nothing else. Socket 0000
+    /// is refused: nothing can listen at it.
     pub fn address(&self) -> Result<Address, TargetFault>
         ensures named { IfOk result (NamesAddress self.now) }
         ensures fault { IfErr result (IsTargetFault self.now) }
@@ -51,6 +52,9 @@ impl Target<'_> {
         let Some(socket) = Socket::from_hex(self.socket.as_bytes()) else {
             return Err(TargetFault::Socket);
         };
+        if socket.0 == 0 {
+            return Err(TargetFault::Socket);
+        }
         Ok(Address {
             network,
             node,

@@ -24,7 +24,7 @@ frames_family ports =
 
 abbrev pub passed_family : List EthernetPortMetrics → MetricFamily
 passed_family ports =
-    counter (codes "ipx_frames_forwarded_total") (codes "Frames to forward from one remote to others")
+    counter (codes "ipx_frames_forwarded_total") (codes "Frames from one remote that the switch forwards to others")
     (map (λ p. at_port p.number p.passed) ports)
 
 abbrev pub unfitting_family : List EthernetPortMetrics → MetricFamily

@@ -31,5 +31,5 @@ neighbour_families now neighbours =
     ∷ gauge (codes "ipx_neighbour_services") (codes "Services learned from a neighbour that are still valid")
     (neighbour_samples Services neighbours)
     ∷ gauge (codes "ipx_neighbour_last_heard_seconds")
-    (codes "Seconds since the neighbour last advertised one of these")
+    (codes "Seconds since the neighbour last advertised a network or service")
     (neighbour_samples (Heard now) neighbours) ∷ []

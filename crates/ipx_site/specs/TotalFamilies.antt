@@ -38,7 +38,7 @@ abbrev pub faults_family : Metrics → MetricFamily
 faults_family m =
     counter (codes "ipx_errors_total") (codes "Errors of the system, by kind") (by_label (codes "kind")
     ((codes "device", m.device_faults) ∷ (codes "memory", m.memory_faults)
-    ∷ (codes "metrics_file", m.file_faults) ∷ []))
+    ∷ (codes "file", m.file_faults) ∷ []))
 
 -- the families of a whole router, in their order
 abbrev pub total_families : Metrics → List MetricFamily
@@ -50,7 +50,7 @@ total_families m =
     (codes "Datagrams sent at RFC 1234 ports, one for each peer that a packet goes to")
     (unlabelled m.sent)
     ∷ outcomes_family m.outcomes ∷ dropped_family m
-    ∷ counter (codes "ipx_unknown_senders_total") (codes "Datagrams from unknown senders, not accepted")
+    ∷ counter (codes "ipx_unknown_senders_total") (codes "Datagrams to RFC 1234 ports from unknown senders")
     (unlabelled m.kept.unknown_senders.count)
     ∷ filtered_family m
     ∷ counter (codes "ipx_egress_filtered_total")

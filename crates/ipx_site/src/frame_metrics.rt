@@ -30,7 +30,7 @@ const FRAMES: Family = Family {
 
 const PASSED: Family = Family {
     name: "ipx_frames_forwarded_total",
-    help: "Frames to forward from one remote to others",
+    help: "Frames from one remote that the switch forwards to others",
     kind: "counter",
 };
 

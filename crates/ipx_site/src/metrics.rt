@@ -110,7 +110,7 @@ const DROPPED: Family = Family {
 
 const UNKNOWN_SENDERS: Family = Family {
     name: "ipx_unknown_senders_total",
-    help: "Datagrams from unknown senders, not accepted",
+    help: "Datagrams to RFC 1234 ports from unknown senders",
     kind: "counter",
 };
 
@@ -211,7 +211,7 @@ fn put_faults(text: &mut String, metrics: &Metrics) -> Result<(), AllocError>
     let metrics = [
         ("device", metrics.device_faults),
         ("memory", metrics.memory_faults),
-        ("metrics_file", metrics.file_faults),
+        ("file", metrics.file_faults),
     ];
     put_each(text, &FAULTS, "kind", &metrics)
 }

@@ -27,7 +27,7 @@ const SERVICES: Family = Family {
 
 const HEARD: Family = Family {
     name: "ipx_neighbour_last_heard_seconds",
-    help: "Seconds since the neighbour last advertised one of these",
+    help: "Seconds since the neighbour last advertised a network or service",
     kind: "gauge",
 };
 

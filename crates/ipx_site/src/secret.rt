@@ -122,8 +122,8 @@ fn tell_secret_fault<R: Eprint>(rt: &R, path: &str, name: &str, fault: SecretFau
         }
         SecretFault::Text => {
             let _ = eprintln!(rt;
-                "{path}: secret_file {name}: it does not hold 64 hex digits and \
-                the end of the line; delete it, and the next start makes another"
+                "{path}: secret_file {name}: not a secret file: its first line is not 64 hex digits; \
+                name a file that does not exist, and ipx creates it"
             );
         }
     }

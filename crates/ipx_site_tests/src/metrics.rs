@@ -119,7 +119,7 @@ const LINES: [&str; 30] = [
     "ipx_egress_filtered_total 16\n",
     "ipx_errors_total{kind=\"device\"} 17\n",
     "ipx_errors_total{kind=\"memory\"} 18\n",
-    "ipx_errors_total{kind=\"metrics_file\"} 19\n",
+    "ipx_errors_total{kind=\"file\"} 19\n",
     "ipx_send_queue_packets 29\n",
     "ipx_routes 20\n",
     "ipx_services 21\n",

@@ -182,7 +182,7 @@ ipx_dropped_total{reason=\"bad_control\"} 11
 ipx_dropped_total{reason=\"table_full\"} 12
 ipx_dropped_total{reason=\"queue_full\"} 13
 ipx_dropped_total{reason=\"unmapped\"} 14
-# HELP ipx_unknown_senders_total Datagrams from unknown senders, not accepted.
+# HELP ipx_unknown_senders_total Datagrams to RFC 1234 ports from unknown senders.
 # TYPE ipx_unknown_senders_total counter
 ipx_unknown_senders_total 15
 # HELP ipx_filtered_total Other datagrams filtered, by reason.
@@ -201,7 +201,7 @@ ipx_egress_filtered_total 16
 # TYPE ipx_errors_total counter
 ipx_errors_total{kind=\"device\"} 17
 ipx_errors_total{kind=\"memory\"} 18
-ipx_errors_total{kind=\"metrics_file\"} 19
+ipx_errors_total{kind=\"file\"} 19
 # HELP ipx_send_queue_packets Packets in the send queue.
 # TYPE ipx_send_queue_packets gauge
 ipx_send_queue_packets 29
@@ -273,7 +273,7 @@ ipx_neighbour_networks{port=\"1\",node=\"00000a010003\"} 31
 # HELP ipx_neighbour_services Services learned from a neighbour that are still valid.
 # TYPE ipx_neighbour_services gauge
 ipx_neighbour_services{port=\"1\",node=\"00000a010003\"} 30
-# HELP ipx_neighbour_last_heard_seconds Seconds since the neighbour last advertised one of these.
+# HELP ipx_neighbour_last_heard_seconds Seconds since the neighbour last advertised a network or service.
 # TYPE ipx_neighbour_last_heard_seconds gauge
 ipx_neighbour_last_heard_seconds{port=\"1\",node=\"00000a010003\"} 40
 # HELP ipx_frames_total Frames received on an Ethernet port, by outcome.
@@ -291,7 +291,7 @@ ipx_frames_total{port=\"2\",outcome=\"in_802.3\"} 510
 ipx_frames_total{port=\"2\",outcome=\"in_802.2\"} 511
 ipx_frames_total{port=\"2\",outcome=\"in_snap\"} 512
 ipx_frames_total{port=\"2\",outcome=\"in_ethernet-ii\"} 513
-# HELP ipx_frames_forwarded_total Frames to forward from one remote to others.
+# HELP ipx_frames_forwarded_total Frames from one remote that the switch forwards to others.
 # TYPE ipx_frames_forwarded_total counter
 ipx_frames_forwarded_total{port=\"2\"} 514
 # HELP ipx_frames_refused_total Packets that do not fit into a frame.

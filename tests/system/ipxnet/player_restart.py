@@ -220,8 +220,10 @@ def check_secret(run):
     run.world.write("made.secret", "no secret\n")
     process = run.world.start("made", "route", made)
     status, said = process.status(10), process.said()
-    run.check("a file that holds something else is a fault of the start, in one line",
-              status == 1 and len(said) == 1 and "secret_file" in said[0], f"{status}: {said}")
+    wanted = (f"{made}: secret_file {secret}: not a secret file: its first line is not 64 hex digits; "
+              "name a file that does not exist, and ipx creates it")
+    run.check("a file that holds something else is a fault of the start, in one line", (status, said) == (1, [wanted]), f"{status}: {said}")
+    run.check("and it stays as it is", open(secret, encoding="utf-8").read() == "no secret\n")
     folder = run.world.path("folder")
     os.mkdir(folder)
     file = run.world.write("folder.toml", f'secret_file = "{folder}"\n{table}')

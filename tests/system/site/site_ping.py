@@ -157,13 +157,15 @@ def check_places(sites):
 
 
 def check_nowhere(sites):
-    """What no IP address has, nothing can be sent to on the host's own network, which 0 is too."""
+    """A node without an IP address, or with one that no host can have, is refused on the host's own network, which 0 is too."""
     file = sites.world.path("pinger.toml")
-    wanted = [f"node 020000000022 names no IP address: on the network of {file} a node is 0000 and an IP address in hex"]
-    for command, network in ((command, network) for command in ("ping", "send") for network in (NEAR, "00000000")):
-        process = sites.world.start(f"nowhere-{command}", command, file, network, "020000000022", "4002")
+    tried = [(command, network, "020000000022") for command in ("ping", "send") for network in (NEAR, "00000000")]
+    tried += [(command, NEAR, station) for command in ("ping", "send") for station in ("000000000001", "0000e0000001", "0000ffffffff")]
+    for command, network, station in tried:
+        wanted = [f"node {station} is no host's IP address: on the network of {file} a node is 0000 and an IP address in hex"]
+        process = sites.world.start(f"nowhere-{command}", command, file, network, station, "4002")
         status = process.status(3)
-        sites.check(f"ipx {command} refuses a node of network {network} that no IP address has",
+        sites.check(f"ipx {command} refuses node {station} of network {network}, which is no host's",
                     (status, process.out, process.said()) == (2, b"", wanted), f"{status}, {process.said()}, {process.out.decode()}")
 
 

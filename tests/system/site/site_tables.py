@@ -92,7 +92,7 @@ def start_unwritten(sites):
 
 def faults_of(sites):
     """How often it could not write, by its figures."""
-    return sites.world.figures(f"{UNWRITTEN}.prom").get('ipx_errors_total{kind="metrics_file"}', 0)
+    return sites.world.figures(f"{UNWRITTEN}.prom").get('ipx_errors_total{kind="file"}', 0)
 
 
 def check_unwritten(sites):
