@@ -51,7 +51,7 @@ unlabelled number = ([], number) ∷ []
 abbrev pub by_label : List ℕ → List (List ℕ × ℕ) → List Sample
 by_label label metrics = map (λ m. ((label, m.0) ∷ [], m.1)) metrics
 
--- a family of counts that only grow, and one of figures that go up and down
+-- a family of counters, which only grow, and one of gauges, which go up and down
 abbrev pub counter : List ℕ → List ℕ → List Sample → MetricFamily
 counter name help samples =
     record { name = name; help = help; kind = codes "counter"; samples = samples }
