@@ -22,7 +22,7 @@ use Rattle.ipx_host.specs.Feeding.{Feeds, FeedState, KeepsQueue, LeavesIntake, S
 use Rattle.ipx_host.specs.SendRounds.{IsSendStep, SendState, feeding_of, place}
 use Rattle.ipx_host.specs.SendSteps.{FeedsOn, GoesOnOrEnds, IsFeedFault, IsStepFault, SeenSoFar, Sees}
 use Rattle.ipx_host.specs.Transfer.{IsWaiting, IsWholeAt, ended_at, joined_at, left_at, state_at, verdict_at}
-use Rattle.ipx_carrier.specs.Turns.{Peers}
+use Rattle.ipx_carrier.specs.Turns.{Peers, Turn}
 use Rattle.ipx_host.specs.Turning.{TakesHostTurn}
 use Rattle.ipx_host.specs.declared.running_host.Activity.{Activity}
 use Rattle.ipx_host.specs.declared.paced_host_core.PacedHostCore.{PacedHostCore}
@@ -175,9 +175,9 @@ stepped id id' core core' start dropped read read' closed closed' acked_bytes ac
     }
 
 -- the clock is as the turn left it
-pub turned : {K : Type 0} (clock now after : K) (tells : K → ℕ → K → Type 0) (peers : Peers) (old seen : PacedHostCore) (turn : Activity)
-    → after ≡ now → TakesHostTurn clock now tells peers old seen turn → TakesHostTurn clock after tells peers old seen turn
-turned {K} clock now after tells peers old seen turn same taken = subst (λ (k : K). TakesHostTurn clock k tells peers old seen turn) (sym same) taken
+pub turned : {K : Type 0} (around now after : K) (drives : K → Turn → K → Type 0) (peers : Peers) (old seen : PacedHostCore) (turn : Activity)
+    → after ≡ now → TakesHostTurn around now drives peers old seen turn → TakesHostTurn around after drives peers old seen turn
+turned {K} around now after drives peers old seen turn same taken = subst (λ (k : K). TakesHostTurn around k drives peers old seen turn) (sym same) taken
 
 -- and so is the core, except its endpoint
 pub same_core : (seen core : PacedHostCore) → core ≡ seen → core ≡ record seen { endpoint = core.endpoint }
@@ -204,9 +204,9 @@ goes_err id seen old new (Some w) f goes =
     (subst (λ (x : SendOutcome). ◌≡◌ {A = Result (Unit {0}) SendOutcome} (Err f) (Err x)) same refl, goes.1)
 goes_err id seen old new None f goes = (inl goes.0, tt)
 
-pub step_ok : {K : Type 0} (old new : SendState K) (more : Bool) (tells : K → ℕ → K → Type 0) (peers : Peers) (id : ℕ) (before after : Activity → Type 0)
-    → ((turn : Activity) → before turn → after turn) → IsSendStep IsFeedFault before old new (Ok more) tells peers id → IsSendStep {T = Unit {0}} IsStepFault after old new (Ok tt) tells peers id
-step_ok old new more tells peers id before after on s = record {
+pub step_ok : {K : Type 0} (old new : SendState K) (more : Bool) (drives : K → Turn → K → Type 0) (peers : Peers) (id : ℕ) (before after : Activity → Type 0)
+    → ((turn : Activity) → before turn → after turn) → IsSendStep IsFeedFault before old new (Ok more) drives peers id → IsSendStep {T = Unit {0}} IsStepFault after old new (Ok tt) drives peers id
+step_ok old new more drives peers id before after on s = record {
   seen = s.seen;
   turn = s.turn;
   turned = s.turned;
@@ -217,9 +217,9 @@ step_ok old new more tells peers id before after on s = record {
   core = s.core;
 }
 
-pub step_unwaited : {K : Type 0} (old new : SendState K) (more : Bool) (tells : K → ℕ → K → Type 0) (peers : Peers) (id : ℕ) (before after : Activity → Type 0)
-    → ((turn : Activity) → before turn → after turn) → IsSendStep IsFeedFault before old new (Ok more) tells peers id → IsSendStep {T = Unit {0}} IsStepFault after old new (Err Unwaited) tells peers id
-step_unwaited old new more tells peers id before after on s = record {
+pub step_unwaited : {K : Type 0} (old new : SendState K) (more : Bool) (drives : K → Turn → K → Type 0) (peers : Peers) (id : ℕ) (before after : Activity → Type 0)
+    → ((turn : Activity) → before turn → after turn) → IsSendStep IsFeedFault before old new (Ok more) drives peers id → IsSendStep {T = Unit {0}} IsStepFault after old new (Err Unwaited) drives peers id
+step_unwaited old new more drives peers id before after on s = record {
   seen = s.seen;
   turn = s.turn;
   turned = s.turned;
@@ -230,9 +230,9 @@ step_unwaited old new more tells peers id before after on s = record {
   core = s.core;
 }
 
-pub step_err : {K : Type 0} (old new : SendState K) (f : SendOutcome) (tells : K → ℕ → K → Type 0) (peers : Peers) (id : ℕ) (before after : Activity → Type 0)
-    → ((turn : Activity) → before turn → after turn) → IsSendStep {T = Bool} IsFeedFault before old new (Err f) tells peers id → IsSendStep {T = Unit {0}} IsStepFault after old new (Err f) tells peers id
-step_err old new f tells peers id before after on s = record {
+pub step_err : {K : Type 0} (old new : SendState K) (f : SendOutcome) (drives : K → Turn → K → Type 0) (peers : Peers) (id : ℕ) (before after : Activity → Type 0)
+    → ((turn : Activity) → before turn → after turn) → IsSendStep {T = Bool} IsFeedFault before old new (Err f) drives peers id → IsSendStep {T = Unit {0}} IsStepFault after old new (Err f) drives peers id
+step_err old new f drives peers id before after on s = record {
   seen = s.seen;
   turn = s.turn;
   turned = s.turned;
@@ -244,11 +244,11 @@ step_err old new f tells peers id before after on s = record {
 }
 
 -- if the clock and the core are unchanged, a place is
-pub same_place : {K : Type 0} (clock clock' : K) (core core' : PacedHostCore) (n : SeenSoFar) (r c : Bool) (l : Ledger) (k : Option (List ℕ))
-    → clock' ≡ clock → core' ≡ core → place clock core n r c l k ≡ place clock' core' n r c l k
-same_place clock clock' core core' n r c l k p q = cc
+pub same_place : {K : Type 0} (around around' : K) (core core' : PacedHostCore) (n : SeenSoFar) (r c : Bool) (l : Ledger) (k : Option (List ℕ))
+    → around' ≡ around → core' ≡ core → place around core n r c l k ≡ place around' core' n r c l k
+same_place around around' core core' n r c l k p q = cc
 
-pub step_waited : {K : Type 0} (old : SendState K) (clock clock' : K) (core core' : PacedHostCore) (n : SeenSoFar) (r c : Bool) (l : Ledger) (k : Option (List ℕ)) (answer : Result (Unit {0}) SendOutcome) (tells : K → ℕ → K → Type 0) (peers : Peers) (id : ℕ) (waits : Activity → Type 0)
-    → clock' ≡ clock → core' ≡ core → IsSendStep IsStepFault waits old (place clock core n r c l k) answer tells peers id → IsSendStep IsStepFault waits old (place clock' core' n r c l k) answer tells peers id
-step_waited {K} old clock clock' core core' n r c l k answer tells peers id waits p q s =
-    subst (λ (x : SendState K). IsSendStep IsStepFault waits old x answer tells peers id) (same_place clock clock' core core' n r c l k p q) s
+pub step_waited : {K : Type 0} (old : SendState K) (around around' : K) (core core' : PacedHostCore) (n : SeenSoFar) (r c : Bool) (l : Ledger) (k : Option (List ℕ)) (answer : Result (Unit {0}) SendOutcome) (drives : K → Turn → K → Type 0) (peers : Peers) (id : ℕ) (waits : Activity → Type 0)
+    → around' ≡ around → core' ≡ core → IsSendStep IsStepFault waits old (place around core n r c l k) answer drives peers id → IsSendStep IsStepFault waits old (place around' core' n r c l k) answer drives peers id
+step_waited {K} old around around' core core' n r c l k answer drives peers id waits p q s =
+    subst (λ (x : SendState K). IsSendStep IsStepFault waits old x answer drives peers id) (same_place around around' core core' n r c l k p q) s

@@ -7,7 +7,7 @@ use Rattle.std.proofs.lemmas.List.Quantifiers.{position-Some}
 use Rattle.std.proofs.lemmas.Option.{get_or_from_slice_get, slice_get-get_or}
 use Rattle.std.specs.List.{list_any, position}
 use Rattle.std.specs.Prelude.{All, IfSome, MatchOption, if◌then◌else◌, nat_le, remove}
-use Rattle.ipx_carrier.specs.Turns.{Peers}
+use Rattle.ipx_carrier.specs.Turns.{Peers, Turn}
 use Rattle.ipx_wire.specs.declared.address.Address.{Address}
 use Rattle.spx_messages.specs.EndpointView.{EndpointView, Held, held_at}
 use Rattle.spx_messages.specs.Taking.{TakenView, Nothing, Part, PeerEnd, Whole, take_end}
@@ -449,24 +449,24 @@ tended_so n old new cs cs' steps run (inr o) =
 
 -- ---- one step, and one after another
 
-heard_and_passed : {K : Type 0} (old new : Host K) (stop : Option ListenOutcome) (tells : K → ℕ → K → Type 0) (peers : Peers) (s : StepView) (steps : List StepView)
-    → (st : Steps old new true stop tells peers s) → So old.sessions steps → So st.still (steps ++ s ∷ [])
-heard_and_passed old new stop tells peers s steps st so =
+heard_and_passed : {K : Type 0} (old new : Host K) (stop : Option ListenOutcome) (drives : K → Turn → K → Type 0) (peers : Peers) (s : StepView) (steps : List StepView)
+    → (st : Steps old new true stop drives peers s) → So old.sessions steps → So st.still (steps ++ s ∷ [])
+heard_and_passed old new stop drives peers s steps st so =
     passed_so st.heard st.moved s st.still old.left new.left old.written new.written steps st.moves.0
     (heard_so st.hears.turn.heard st.hears.seen st.heard old.sessions s.there steps st.hears.noted so)
 
-step_so : {K : Type 0} (old new : Host K) (tells : K → ℕ → K → Type 0) (peers : Peers) (s : StepView) (steps : List StepView)
-    → Steps old new true None tells peers s → So old.sessions steps → So new.sessions (steps ++ s ∷ [])
-step_so old new tells peers s steps st so =
-    tended_so st.tidied.0 st.moved new.core st.still new.sessions (steps ++ s ∷ []) st.tidied.2 (heard_and_passed old new None tells peers s steps st so)
+step_so : {K : Type 0} (old new : Host K) (drives : K → Turn → K → Type 0) (peers : Peers) (s : StepView) (steps : List StepView)
+    → Steps old new true None drives peers s → So old.sessions steps → So new.sessions (steps ++ s ∷ [])
+step_so old new drives peers s steps st so =
+    tended_so st.tidied.0 st.moved new.core st.still new.sessions (steps ++ s ∷ []) st.tidied.2 (heard_and_passed old new None drives peers s steps st so)
 
-run_so : {K : Type 0} (n : ℕ) (old new : Host K) (tells : K → ℕ → K → Type 0) (peers : Peers) (steps : List StepView)
-    → StepsWithoutStop n old new true tells peers steps → So old.sessions [] → So new.sessions steps
-run_so {K} zero old new tells peers steps run so =
+run_so : {K : Type 0} (n : ℕ) (old new : Host K) (drives : K → Turn → K → Type 0) (peers : Peers) (steps : List StepView)
+    → StepsWithoutStop n old new true drives peers steps → So old.sessions [] → So new.sessions steps
+run_so {K} zero old new drives peers steps run so =
     subst (λ (h : Host K). So h.sessions steps) (sym run.0) (subst (λ (l : List StepView). So old.sessions l) (sym run.1) so)
-run_so (suc n) old new tells peers steps run so =
+run_so (suc n) old new drives peers steps run so =
     subst (λ (l : List StepView). So new.sessions l) (sym run.3)
-    (step_so run.0 new tells peers run.2 run.1 run.5 (run_so n old run.0 tells peers run.1 run.4 so))
+    (step_so run.0 new drives peers run.2 run.1 run.5 (run_so n old run.0 drives peers run.1 run.4 so))
 
 -- ---- and a last one
 
@@ -491,19 +491,19 @@ last_so cs place c steps at ended (inr o) =
     alone_ended k c zero at ended = ap is_ended (same_some k c at) ∙ ap ends ended
     alone_ended k c (suc n) at ended = absurd (omega (arith, within_of (k ∷ []) (suc n) c at))
 
-ends_so : {K : Type 0} (old new : Host K) (tells : K → ℕ → K → Type 0) (peers : Peers) (s : StepView) (steps : List StepView)
-    → Steps old new true (Some Stops.Ended) tells peers s → So old.sessions steps → (id : ℕ) × (from : Address) × HearsOneOut (steps ++ s ∷ []) id from
-ends_so old new tells peers s steps st so =
+ends_so : {K : Type 0} (old new : Host K) (drives : K → Turn → K → Type 0) (peers : Peers) (s : StepView) (steps : List StepView)
+    → Steps old new true (Some Stops.Ended) drives peers s → So old.sessions steps → (id : ℕ) × (from : Address) × HearsOneOut (steps ++ s ∷ []) id from
+ends_so old new drives peers s steps st so =
     let t = st.tidied in
     let f = t.5 in
-    let among : So t.3 (steps ++ s ∷ []) = tended_so t.0 st.moved t.2 st.still t.3 (steps ++ s ∷ []) t.4 (heard_and_passed old new (Some Stops.Ended) tells peers s steps st so) in
+    let among : So t.3 (steps ++ s ∷ []) = tended_so t.0 st.moved t.2 st.still t.3 (steps ++ s ∷ []) t.4 (heard_and_passed old new (Some Stops.Ended) drives peers s steps st so) in
     last_so t.3 f.place f.session (steps ++ s ∷ []) f.there (done_ends t.2.moment f.session f.place f.tends.0 t.2.endpoint new.core.endpoint t.3 new.sessions f.tends.2) among
 
-pub heard_out : {K : Type 0} (old new : Host K) (once : Bool) (tells : K → ℕ → K → Type 0) (peers : Peers) (steps : List StepView)
-    → once ≡ true → old.sessions ≡ [] → Serves old new once Stops.Ended tells peers steps → (id : ℕ) × (from : Address) × HearsOneOut steps id from
-heard_out old new false tells peers steps only nobody serves = absurd (cc)
-heard_out old new true tells peers steps only nobody (inl s) =
+pub heard_out : {K : Type 0} (old new : Host K) (once : Bool) (drives : K → Turn → K → Type 0) (peers : Peers) (steps : List StepView)
+    → once ≡ true → old.sessions ≡ [] → Serves old new once Stops.Ended drives peers steps → (id : ℕ) × (from : Address) × HearsOneOut steps id from
+heard_out old new false drives peers steps only nobody serves = absurd (cc)
+heard_out old new true drives peers steps only nobody (inl s) =
     let nothing : So old.sessions [] = inl (ap (list_any has_spoken) nobody, refl, λ id from. All-nil (IsOnly id from)) in
-    let run = run_so s.0 old s.1 tells peers s.2 s.5 nothing in
-    subst (λ (l : List StepView). (id : ℕ) × (from : Address) × HearsOneOut l id from) (sym s.4) (ends_so s.1 new tells peers s.3 s.2 s.6 run)
-heard_out old new true tells peers steps only nobody (inr s) = absurd (let no = s.0 in cc)
+    let run = run_so s.0 old s.1 drives peers s.2 s.5 nothing in
+    subst (λ (l : List StepView). (id : ℕ) × (from : Address) × HearsOneOut l id from) (sym s.4) (ends_so s.1 new drives peers s.3 s.2 s.6 run)
+heard_out old new true drives peers steps only nobody (inr s) = absurd (let no = s.0 in cc)

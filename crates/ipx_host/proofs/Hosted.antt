@@ -3,7 +3,7 @@ use Rattle.std.proofs.Common.{◌≡◌, ◌≢◌, ℕ, zero, suc, ◌+◌, ◌
 use Rattle.std.specs.Prelude.{All, IfErr, IfOk, IfSome, IsTrue, OnErr, OnOk, slice_get}
 use Rattle.std.specs.Io.KnownBytes.{Appends}
 use Rattle.ipx_carrier.specs.Mapping.{node_at}
-use Rattle.ipx_carrier.specs.Turns.{Peers}
+use Rattle.ipx_carrier.specs.Turns.{Peers, Turn}
 use Rattle.ipx_config.specs.Host.{IsHostText}
 use Rattle.ipx_config.specs.Loading.{IsFileText}
 use Rattle.ipx_config.specs.AllowedPeers.{named_in}
@@ -178,18 +178,18 @@ moved_none core cs x y a b wrote = moved_some core core cs cs x y y a b b wrote 
 
 -- ---- one step
 
-pub stepped : {K : Type 0} (clock clock1 clock2 clock3 : K) (core core1 core2 core3 : PacedHostCore) (cs cs1 cs2 cs3 : List Session) (o o1 o2 o3 : Outlet) (once once' : Bool) (a b : Option (List ℕ))
-    (stop : Option ListenOutcome) (tells : K → ℕ → K → Type 0) (peers : Peers) (takes : List Take) (active : Bool)
-    → (hears : HearsAndNotesAll clock clock1 core core1 cs cs1 once tells peers) → active ≡ hears.turn.active → o1 ≡ o → clock2 ≡ clock1 → once' ≡ once
-    → MovesUntilFull core1 core2 cs1 cs2 (left_of o1) (left_of o2) a b takes → clock3 ≡ clock2 → o3 ≡ o2 → Tidies once' core2 core3 cs2 cs3 stop
-    → Steps (host clock core cs (left_of o) a) (host clock3 core3 cs3 (left_of o3) b) once stop tells peers (record { active = active; there = cs1; takes = takes })
-stepped {K} clock clock1 clock2 clock3 core core1 core2 core3 cs cs1 cs2 cs3 o o1 o2 o3 once once' a b stop tells peers takes active hears did unheard ticks same moves tidied unwritten tidies =
+pub stepped : {K : Type 0} (around around1 around2 around3 : K) (core core1 core2 core3 : PacedHostCore) (cs cs1 cs2 cs3 : List Session) (o o1 o2 o3 : Outlet) (once once' : Bool) (a b : Option (List ℕ))
+    (stop : Option ListenOutcome) (drives : K → Turn → K → Type 0) (peers : Peers) (takes : List Take) (active : Bool)
+    → (hears : HearsAndNotesAll around around1 core core1 cs cs1 once drives peers) → active ≡ hears.turn.active → o1 ≡ o → around2 ≡ around1 → once' ≡ once
+    → MovesUntilFull core1 core2 cs1 cs2 (left_of o1) (left_of o2) a b takes → around3 ≡ around2 → o3 ≡ o2 → Tidies once' core2 core3 cs2 cs3 stop
+    → Steps (host around core cs (left_of o) a) (host around3 core3 cs3 (left_of o3) b) once stop drives peers (record { active = active; there = cs1; takes = takes })
+stepped {K} around around1 around2 around3 core core1 core2 core3 cs cs1 cs2 cs3 o o1 o2 o3 once once' a b stop drives peers takes active hears did unheard ticks same moves tidied unwritten tidies =
     record {
       heard = core1;
       hears = record {
         seen = hears.seen;
         turn = hears.turn;
-        turned = subst (λ (k : K). TakesHostTurn clock k tells peers core hears.seen hears.turn) (sym (tidied ∙ ticks)) hears.turned;
+        turned = subst (λ (k : K). TakesHostTurn around k drives peers core hears.seen hears.turn) (sym (tidied ∙ ticks)) hears.turned;
         noted = hears.noted;
       };
       active = did;
@@ -201,11 +201,11 @@ stepped {K} clock clock1 clock2 clock3 core core1 core2 core3 cs cs1 cs2 cs3 o o
     }
 
 -- and one that the writer breaks off
-pub broken_off : {K : Type 0} (clock clock1 : K) (core core1 core2 : PacedHostCore) (cs cs1 cs2 : List Session) (o o1 o2 : Outlet) (once : Bool) (a b : Option (List ℕ))
-    (tells : K → ℕ → K → Type 0) (peers : Peers) (takes : List Take) (active : Bool) → (hears : HearsAndNotesAll clock clock1 core core1 cs cs1 once tells peers) → active ≡ hears.turn.active → o1 ≡ o
+pub broken_off : {K : Type 0} (around around1 : K) (core core1 core2 : PacedHostCore) (cs cs1 cs2 : List Session) (o o1 o2 : Outlet) (once : Bool) (a b : Option (List ℕ))
+    (drives : K → Turn → K → Type 0) (peers : Peers) (takes : List Take) (active : Bool) → (hears : HearsAndNotesAll around around1 core core1 cs cs1 once drives peers) → active ≡ hears.turn.active → o1 ≡ o
     → MovesSome core1 core2 cs1 cs2 (left_of o1) (left_of o2) a b takes
-    → WriterBreaksOff (host clock core cs (left_of o) a) (host clock1 core2 cs2 (left_of o2) b) once tells peers (record { active = active; there = cs1; takes = takes })
-broken_off clock clock1 core core1 core2 cs cs1 cs2 o o1 o2 once a b tells peers takes active hears did unheard moves = record {
+    → WriterBreaksOff (host around core cs (left_of o) a) (host around1 core2 cs2 (left_of o2) b) once drives peers (record { active = active; there = cs1; takes = takes })
+broken_off around around1 core core1 core2 cs cs1 cs2 o o1 o2 once a b drives peers takes active hears did unheard moves = record {
   heard = core1;
   hears = hears;
   active = did;
@@ -213,23 +213,23 @@ broken_off clock clock1 core core1 core2 cs cs1 cs2 o o1 o2 once a b tells peers
 }
 
 -- a step that is tidied stops the host so
-pub tidied_to : {K : Type 0} (old new : Host K) (once : Bool) (stop : ListenOutcome) (tells : K → ℕ → K → Type 0) (peers : Peers) (step : StepView)
-    → Steps old new once (Some stop) tells peers step → StepsTo old new once (Some stop) tells peers step
-tidied_to old new once Ended tells peers step s = s
-tidied_to old new once Lost tells peers step s = s
-tidied_to old new once Unwritten tells peers step s = absurd (tidied_parts once s.moved new.core s.still new.sessions Unwritten s.tidied)
-tidied_to old new once Unwaited tells peers step s = absurd (tidied_parts once s.moved new.core s.still new.sessions Unwaited s.tidied)
+pub tidied_to : {K : Type 0} (old new : Host K) (once : Bool) (stop : ListenOutcome) (drives : K → Turn → K → Type 0) (peers : Peers) (step : StepView)
+    → Steps old new once (Some stop) drives peers step → StepsTo old new once (Some stop) drives peers step
+tidied_to old new once Ended drives peers step s = s
+tidied_to old new once Lost drives peers step s = s
+tidied_to old new once Unwritten drives peers step s = absurd (tidied_parts once s.moved new.core s.still new.sessions Unwritten s.tidied)
+tidied_to old new once Unwaited drives peers step s = absurd (tidied_parts once s.moved new.core s.still new.sessions Unwaited s.tidied)
 
 -- ---- one step after another
 
-to_writes : {K : Type 0} (old new : Host K) (once : Bool) (stop : Option ListenOutcome) (tells : K → ℕ → K → Type 0) (peers : Peers) (step : StepView)
-    → StepsTo old new once stop tells peers step → Writes (old.left ++ bodies_of step.takes) new.left old.written new.written
-to_writes old new once None tells peers step s = moves_writes s.heard s.moved s.moves.0.front s.moves.0.front' old.left new.left old.written new.written step.takes s.moves.0.moves
-to_writes old new once (Some Ended) tells peers step s = moves_writes s.heard s.moved s.moves.0.front s.moves.0.front' old.left new.left old.written new.written step.takes s.moves.0.moves
-to_writes old new once (Some Lost) tells peers step s = moves_writes s.heard s.moved s.moves.0.front s.moves.0.front' old.left new.left old.written new.written step.takes s.moves.0.moves
-to_writes old new once (Some Unwritten) tells peers step s =
+to_writes : {K : Type 0} (old new : Host K) (once : Bool) (stop : Option ListenOutcome) (drives : K → Turn → K → Type 0) (peers : Peers) (step : StepView)
+    → StepsTo old new once stop drives peers step → Writes (old.left ++ bodies_of step.takes) new.left old.written new.written
+to_writes old new once None drives peers step s = moves_writes s.heard s.moved s.moves.0.front s.moves.0.front' old.left new.left old.written new.written step.takes s.moves.0.moves
+to_writes old new once (Some Ended) drives peers step s = moves_writes s.heard s.moved s.moves.0.front s.moves.0.front' old.left new.left old.written new.written step.takes s.moves.0.moves
+to_writes old new once (Some Lost) drives peers step s = moves_writes s.heard s.moved s.moves.0.front s.moves.0.front' old.left new.left old.written new.written step.takes s.moves.0.moves
+to_writes old new once (Some Unwritten) drives peers step s =
     moves_writes s.heard new.core s.moves.front s.moves.front' old.left new.left old.written new.written step.takes s.moves.moves
-to_writes old new once (Some Unwaited) tells peers step s = moves_writes s.heard s.moved s.moves.0.front s.moves.0.front' old.left new.left old.written new.written step.takes s.moves.0.moves
+to_writes old new once (Some Unwaited) drives peers step s = moves_writes s.heard s.moved s.moves.0.front s.moves.0.front' old.left new.left old.written new.written step.takes s.moves.0.moves
 
 -- what more was taken is written after what was taken before
 more_writes : (x y z before now bytes : List ℕ) (a b c : Option (List ℕ)) → bytes ≡ before ++ now → Writes (x ++ before) y a b → Writes (y ++ now) z b c → Writes (x ++ bytes) z a c
@@ -240,43 +240,43 @@ more_writes x y z before now bytes a b c is first rest =
 bytes_push : (steps : List StepView) (s : StepView) → bytes_of (steps ++ s ∷ []) ≡ bytes_of steps ++ bodies_of s.takes
 bytes_push steps s = ap bodies_of (takes_push steps s) ∙ bodies_append (takes_of steps) s.takes
 
-on_writes : {K : Type 0} (n : ℕ) (old new : Host K) (once : Bool) (tells : K → ℕ → K → Type 0) (peers : Peers) (steps : List StepView)
-    → StepsWithoutStop n old new once tells peers steps → Writes (old.left ++ bytes_of steps) new.left old.written new.written
-on_writes {K} zero old new once tells peers steps run =
+on_writes : {K : Type 0} (n : ℕ) (old new : Host K) (once : Bool) (drives : K → Turn → K → Type 0) (peers : Peers) (steps : List StepView)
+    → StepsWithoutStop n old new once drives peers steps → Writes (old.left ++ bytes_of steps) new.left old.written new.written
+on_writes {K} zero old new once drives peers steps run =
     let none : Writes (old.left ++ bytes_of steps) old.left old.written old.written =
     subst (λ (l : List ℕ). Writes l old.left old.written old.written) (sym (ap (λ ss. old.left ++ bytes_of ss) run.1 ∙ append-nil old.left)) (writes_none old.left old.written) in
     subst (λ (h : Host K). Writes (old.left ++ bytes_of steps) h.left old.written h.written) (sym run.0) none
-on_writes (suc n) old new once tells peers steps run =
+on_writes (suc n) old new once drives peers steps run =
     more_writes old.left run.0.left new.left (bytes_of run.1) (bodies_of run.2.takes) (bytes_of steps) old.written run.0.written new.written (ap bytes_of run.3 ∙ bytes_push run.1 run.2)
-    (on_writes n old run.0 once tells peers run.1 run.4) (to_writes run.0 new once None tells peers run.2 run.5)
+    (on_writes n old run.0 once drives peers run.1 run.4) (to_writes run.0 new once None drives peers run.2 run.5)
 
 -- one more
-pub steps_more : {K : Type 0} (n : ℕ) (old last new : Host K) (once once' : Bool) (tells : K → ℕ → K → Type 0) (peers here : Peers) (before : List StepView) (now : StepView)
-    → once' ≡ once → here ≡ peers → StepsWithoutStop n old last once tells peers before → StepsTo last new once' None tells here now
-    → (steps : List StepView) × StepsWithoutStop (n + 1) old new once tells peers steps
-steps_more n old last new once once' tells peers here before now same among run step =
+pub steps_more : {K : Type 0} (n : ℕ) (old last new : Host K) (once once' : Bool) (drives : K → Turn → K → Type 0) (peers here : Peers) (before : List StepView) (now : StepView)
+    → once' ≡ once → here ≡ peers → StepsWithoutStop n old last once drives peers before → StepsTo last new once' None drives here now
+    → (steps : List StepView) × StepsWithoutStop (n + 1) old new once drives peers steps
+steps_more n old last new once once' drives peers here before now same among run step =
     let next : suc n ≡ n + 1 = omega arith in
-    let one : Steps last new once None tells peers now =
-    subst (λ (o : Bool). Steps last new o None tells peers now) same (subst (λ (p : Peers). Steps last new once' None tells p now) among step) in
-    (before ++ now ∷ [], subst (λ (k : ℕ). StepsWithoutStop k old new once tells peers (before ++ now ∷ [])) next (last, before, now, refl, run, one))
+    let one : Steps last new once None drives peers now =
+    subst (λ (o : Bool). Steps last new o None drives peers now) same (subst (λ (p : Peers). Steps last new once' None drives p now) among step) in
+    (before ++ now ∷ [], subst (λ (k : ℕ). StepsWithoutStop k old new once drives peers (before ++ now ∷ [])) next (last, before, now, refl, run, one))
 
 -- and a last one
-pub served : {K : Type 0} (n : ℕ) (old last new : Host K) (once once' : Bool) (stop : ListenOutcome) (tells : K → ℕ → K → Type 0) (peers here : Peers) (before : List StepView) (now : StepView)
-    → once' ≡ once → here ≡ peers → StepsWithoutStop n old last once tells peers before → StepsTo last new once' (Some stop) tells here now
-    → (steps : List StepView) × Serves old new once stop tells peers steps × Writes (old.left ++ bytes_of steps) new.left old.written new.written
-served n old last new once once' stop tells peers here before now same among run step =
-    let one : StepsTo last new once (Some stop) tells peers now =
-    subst (λ (o : Bool). StepsTo last new o (Some stop) tells peers now) same (subst (λ (p : Peers). StepsTo last new once' (Some stop) tells p now) among step) in (
+pub served : {K : Type 0} (n : ℕ) (old last new : Host K) (once once' : Bool) (stop : ListenOutcome) (drives : K → Turn → K → Type 0) (peers here : Peers) (before : List StepView) (now : StepView)
+    → once' ≡ once → here ≡ peers → StepsWithoutStop n old last once drives peers before → StepsTo last new once' (Some stop) drives here now
+    → (steps : List StepView) × Serves old new once stop drives peers steps × Writes (old.left ++ bytes_of steps) new.left old.written new.written
+served n old last new once once' stop drives peers here before now same among run step =
+    let one : StepsTo last new once (Some stop) drives peers now =
+    subst (λ (o : Bool). StepsTo last new o (Some stop) drives peers now) same (subst (λ (p : Peers). StepsTo last new once' (Some stop) drives p now) among step) in (
       before ++ now ∷ [],
       inl (n, last, before, now, refl, run, one),
       more_writes old.left last.left new.left (bytes_of before) (bodies_of now.takes) (bytes_of (before ++ now ∷ [])) old.written last.written new.written (bytes_push before now)
-          (on_writes n old last once tells peers before run) (to_writes last new once (Some stop) tells peers now one),
+          (on_writes n old last once drives peers before run) (to_writes last new once (Some stop) drives peers now one),
     )
 
-pub served_long : {K : Type 0} (n : ℕ) (old new : Host K) (once : Bool) (tells : K → ℕ → K → Type 0) (peers : Peers) (steps : List StepView) → n ≡ 18446744073709551615
-    → StepsWithoutStop n old new once tells peers steps
-    → (steps : List StepView) × Serves old new once Lost tells peers steps × Writes (old.left ++ bytes_of steps) new.left old.written new.written
-served_long n old new once tells peers steps long run = (steps, inr (refl, n, long, run), on_writes n old new once tells peers steps run)
+pub served_long : {K : Type 0} (n : ℕ) (old new : Host K) (once : Bool) (drives : K → Turn → K → Type 0) (peers : Peers) (steps : List StepView) → n ≡ 18446744073709551615
+    → StepsWithoutStop n old new once drives peers steps
+    → (steps : List StepView) × Serves old new once Lost drives peers steps × Writes (old.left ++ bytes_of steps) new.left old.written new.written
+served_long n old new once drives peers steps long run = (steps, inr (refl, n, long, run), on_writes n old new once drives peers steps run)
 
 -- ---- and so the host ends well
 
@@ -285,16 +285,16 @@ all_written x y a b p none =
     let all : p.0 ≡ x = sym (p.1 ∙ ap (λ l. p.0 ++ l) none ∙ append-nil p.0) in
     subst (Appends a b) all p.2
 
-pub ended_well : {K : Type 0} (old new : Host K) (once : Bool) (stop : ListenOutcome) (tells : K → ℕ → K → Type 0) (peers : Peers) (steps : List StepView)
-    → Serves old new once stop tells peers steps → Writes (old.left ++ bytes_of steps) new.left old.written new.written → stop_status stop ≡ 0 → new.left ≡ []
-    → ServesWell old once new.written tells peers steps
-ended_well old new once Ended tells peers steps serves wrote status none = (new, serves, none, refl, all_written (old.left ++ bytes_of steps) new.left old.written new.written wrote none)
-ended_well old new once Lost tells peers steps serves wrote status none = absurd (cc)
-ended_well old new once Unwritten tells peers steps serves wrote status none = absurd (cc)
-ended_well old new once Unwaited tells peers steps serves wrote status none = absurd (cc)
+pub ended_well : {K : Type 0} (old new : Host K) (once : Bool) (stop : ListenOutcome) (drives : K → Turn → K → Type 0) (peers : Peers) (steps : List StepView)
+    → Serves old new once stop drives peers steps → Writes (old.left ++ bytes_of steps) new.left old.written new.written → stop_status stop ≡ 0 → new.left ≡ []
+    → ServesWell old once new.written drives peers steps
+ended_well old new once Ended drives peers steps serves wrote status none = (new, serves, none, refl, all_written (old.left ++ bytes_of steps) new.left old.written new.written wrote none)
+ended_well old new once Lost drives peers steps serves wrote status none = absurd (cc)
+ended_well old new once Unwritten drives peers steps serves wrote status none = absurd (cc)
+ended_well old new once Unwaited drives peers steps serves wrote status none = absurd (cc)
 
 -- one that was started has no connection yet, and nothing to write
-pub begun : {K T E : Type 0} (file : HostConfig) (X : Type 0) (started : Result T E) (at : T → Host K) (its : T → Bool) (among : T → Peers) (once : Bool) (a b : Option (List ℕ)) (tells : K → ℕ → K → Type 0) (status : ℕ)
+pub begun : {K T E : Type 0} (file : HostConfig) (X : Type 0) (started : Result T E) (at : T → Host K) (its : T → Bool) (among : T → Peers) (once : Bool) (a b : Option (List ℕ)) (drives : K → Turn → K → Type 0) (status : ℕ)
     → IfOk started (λ l. (at l).core.endpoint.network ≡ file.network) → IfOk started (λ l. (at l).core.endpoint.node ≡ node_at file.address)
     → IfOk started (λ l. (at l).core.endpoint.router ≡ node_at file.router) → IfOk started (λ l. among l ≡ (file.router ∷ []) ∷ [])
     → IfOk started (λ l. buffers_at (at l).core.endpoint file.socket ≡ Some file.buffers)
@@ -302,15 +302,15 @@ pub begun : {K T E : Type 0} (file : HostConfig) (X : Type 0) (started : Result 
     → IfOk started (λ l. (id : ℕ) → held_at (at l).core.endpoint id ≡ None) → IfOk started (λ l. (at l).core.came ≡ None) → IfOk started (λ l. (at l).core.paced ≡ None)
     → IfOk started (λ l. named_in (at l).core.from ≡ named_in file.from) → IfOk started (λ l. (at l).core.network ≡ file.network)
     → IfOk started (λ l. (at l).sessions ≡ []) → IfOk started (λ l. (at l).left ≡ []) → IfOk started (λ l. its l ≡ once) → ((l : T) → (at l).written ≡ a)
-    → OnErr started ((status ≡ 1) × X) → (status ≡ 0 → IfOk started (λ l. IsTrue (its l))) → (status ≡ 0 → IfOk started (λ l. (steps : List StepView) × ServesWell (at l) (its l) b tells (among l) steps)) → status ≡ 0
-    → ListensWell file once a b tells
-begun file X (Err e) at its among once a b tells status network node router routed listens alone links accepted unpaced from own nobody nothing same written unstarted only well ends =
+    → OnErr started ((status ≡ 1) × X) → (status ≡ 0 → IfOk started (λ l. IsTrue (its l))) → (status ≡ 0 → IfOk started (λ l. (steps : List StepView) × ServesWell (at l) (its l) b drives (among l) steps)) → status ≡ 0
+    → ListensWell file once a b drives
+begun file X (Err e) at its among once a b drives status network node router routed listens alone links accepted unpaced from own nobody nothing same written unstarted only well ends =
     absurd (omega (arith, unstarted.0, ends))
-begun {K} file X (Ok l) at its among once a b tells status network node router routed listens alone links accepted unpaced from own nobody nothing same written unstarted only well ends =
+begun {K} file X (Ok l) at its among once a b drives status network node router routed listens alone links accepted unpaced from own nobody nothing same written unstarted only well ends =
     let run = well ends in
     let took : Appends (at l).written b ((at l).left ++ bytes_of run.0) = run.1.4 in
     let bare : Appends (at l).written b (bytes_of run.0) = subst (λ (x : List ℕ). Appends (at l).written b (x ++ bytes_of run.0)) nothing took in
-    let one = heard_out (at l) run.1.0 (its l) tells (among l) run.0 (only ends) nobody run.1.1 in
+    let one = heard_out (at l) run.1.0 (its l) drives (among l) run.0 (only ends) nobody run.1.1 in
     record {
       start = at l;
       peers = among l;
@@ -331,7 +331,7 @@ begun {K} file X (Ok l) at its among once a b tells status network node router r
         nothing = nothing;
         known = written l;
       };
-      serves = subst (λ (o : Bool). ServesWell (at l) o b tells (among l) run.0) same run.1;
+      serves = subst (λ (o : Bool). ServesWell (at l) o b drives (among l) run.0) same run.1;
       id = one.0;
       from = one.1;
       one = one.2;
@@ -339,13 +339,13 @@ begun {K} file X (Ok l) at its among once a b tells status network node router r
     }
 
 -- the status of a file that can't be loaded is 1 or 2
-pub loaded_so : {K : Type 0} (X : Type 0) (once : Bool) (a b : Option (List ℕ)) (tells : K → ℕ → K → Type 0) (loaded : Result HostConfig ℕ) (status : ℕ)
+pub loaded_so : {K : Type 0} (X : Type 0) (once : Bool) (a b : Option (List ℕ)) (drives : K → Turn → K → Type 0) (loaded : Result HostConfig ℕ) (status : ℕ)
     → IfErr loaded (λ s. (s ≡ 1) ⊎ (s ≡ 2)) → IfOk loaded (λ h. (text : List ℕ) × IsFileText text × IsHostText text h)
-    → IfOk loaded (λ h. status ≡ 0 → ListensWell h once a b tells) → IfErr loaded (λ s. (status ≡ s) × X) → status ≡ 0
-    → (text : List ℕ) × (file : HostConfig) × IsFileText text × IsHostText text file × ListensWell file once a b tells
-loaded_so X once a b tells (Ok h) status fault said well unloaded ends = (said.0, h, said.1, said.2, well ends)
-loaded_so X once a b tells (Err s) status (inl e) said well unloaded ends = absurd (omega (arith, unloaded.0, e, ends))
-loaded_so X once a b tells (Err s) status (inr e) said well unloaded ends = absurd (omega (arith, unloaded.0, e, ends))
+    → IfOk loaded (λ h. status ≡ 0 → ListensWell h once a b drives) → IfErr loaded (λ s. (status ≡ s) × X) → status ≡ 0
+    → (text : List ℕ) × (file : HostConfig) × IsFileText text × IsHostText text file × ListensWell file once a b drives
+loaded_so X once a b drives (Ok h) status fault said well unloaded ends = (said.0, h, said.1, said.2, well ends)
+loaded_so X once a b drives (Err s) status (inl e) said well unloaded ends = absurd (omega (arith, unloaded.0, e, ends))
+loaded_so X once a b drives (Err s) status (inr e) said well unloaded ends = absurd (omega (arith, unloaded.0, e, ends))
 
 -- a status above those of a host that was loaded is that of a file, and nothing is done then
 pub untouched_by : {T : Type 0} (X P : Type 0) (loaded : Result T ℕ) (status : ℕ) → OnOk loaded P → (P → X) → IfErr loaded (λ s. (status ≡ s) × X) → X

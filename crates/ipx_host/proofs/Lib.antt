@@ -7,6 +7,7 @@ pub mod Unheard
 pub mod Told
 pub mod Written
 pub mod Turning
+pub mod Surrounding
 pub mod Acknowledged
 pub mod Fed
 pub mod HeardOut

@@ -2,7 +2,7 @@
 use Rattle.std.proofs.Common.{◌≡◌, ◌≢◌, ℕ, Bool, true, false, List, Option, Some, None, Result, Err, ◌⊎◌, inl, inr, refl, sym, ap, ◌∙◌, subst}
 use Rattle.std.specs.Prelude.{◌↔◌}
 use Rattle.std.specs.Option.{option_map}
-use Rattle.ipx_carrier.specs.Turns.{Peers}
+use Rattle.ipx_carrier.specs.Turns.{Peers, Turn}
 use Rattle.ipx_sockets.specs.declared.poller.Poller.{Poller}
 use Rattle.ipx_sockets.proofs.Waits.{err_is}
 use Rattle.ipx_sockets.specs.Polling.{FailedToWait, WaitsOnce, WaitsWell}
@@ -80,9 +80,9 @@ fault_is_other id seen a b (Some v) f other goes is =
     subst IsOther (ap Some (err_is v f (Err f) goes.0 refl ∙ is)) other
 fault_is_other id seen a b None f other goes is = read_fault f goes.0.1 is
 
-pub send_fault : {K : Type 0} (old new : SendState K) (f : SendOutcome) (tells : K → ℕ → K → Type 0) (peers : Peers) (id : ℕ) (waits : Activity → Type 0)
-    → IsSendStep {T = Bool} IsFeedFault waits old new (Err f) tells peers id → f ≡ Verdicts.Unwaited → ⊥
-send_fault old new f tells peers id waits s =
+pub send_fault : {K : Type 0} (old new : SendState K) (f : SendOutcome) (drives : K → Turn → K → Type 0) (peers : Peers) (id : ℕ) (waits : Activity → Type 0)
+    → IsSendStep {T = Bool} IsFeedFault waits old new (Err f) drives peers id → f ≡ Verdicts.Unwaited → ⊥
+send_fault old new f drives peers id waits s =
     fault_is_other id s.seen.endpoint (feeding_of old) (feeding_of new) s.verdict f
     (subst IsOther (sym s.sees.tells) (ended old.closed _ (judged s.sees.whole new.noted.joined s.sees.waits (state_at s.seen.endpoint id))))
     s.goes

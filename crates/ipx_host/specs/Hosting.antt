@@ -5,7 +5,7 @@
 use Rattle.std.specs.Prelude.{◌≡◌, ◌≢◌, ◌⊎◌, ◌-◌, ◌^◌, ℕ, zero, suc, Bool, true, false, All, List, [], ◌∷◌, ◌++◌, Option, Some, None, Ok}
 use Rattle.std.specs.Io.KnownBytes.{Appends}
 use Rattle.ipx_carrier.specs.Mapping.{node_at}
-use Rattle.ipx_carrier.specs.Turns.{Peers}
+use Rattle.ipx_carrier.specs.Turns.{Peers, Turn}
 use Rattle.ipx_config.specs.AllowedPeers.{named_in}
 use Rattle.ipx_config.specs.declared.host.HostConfig.{HostConfig}
 use Rattle.ipx_wire.specs.declared.address.Address.{Address}
@@ -26,15 +26,15 @@ use Rattle.ipx_host.specs.declared.running_host.Activity.{Activity}
 -- the state of a host between two steps: its clock and its core, its connections, what is left to write, and
 -- what its writer took, if known
 pub record Host (K : Type 0) : Type 0 where
-  pub clock : K
+  pub around : K
   pub core : PacedHostCore
   pub sessions : List Session
   pub left : List ℕ
   pub written : Option (List ℕ)
 
 abbrev pub host : {K : Type 0} → K → PacedHostCore → List Session → List ℕ → Option (List ℕ) → Host K
-host clock core sessions left written =
-    record { clock = clock; core = core; sessions = sessions; left = left; written = written }
+host around core sessions left written =
+    record { around = around; core = core; sessions = sessions; left = left; written = written }
 
 -- if a datagram was received, it is noted. Otherwise nothing changes
 abbrev pub NotesIf : Bool → Bool → PacedHostCore → PacedHostCore → List Session → List Session → Type 0
@@ -42,11 +42,11 @@ NotesIf true once old new sessions sessions' = NotesHeard once old new sessions 
 NotesIf false once old new sessions sessions' = (new ≡ old) × (sessions' ≡ sessions)
 
 -- a turn, and what is noted of it
-pub record HearsAndNotesAll {K : Type 0} (clock clock' : K) (old new : PacedHostCore) (sessions sessions' : List Session)
-    (once : Bool) (tells : K → ℕ → K → Type 0) (peers : Peers) : Type 0 where
+pub record HearsAndNotesAll {K : Type 0} (around around' : K) (old new : PacedHostCore) (sessions sessions' : List Session)
+    (once : Bool) (drives : K → Turn → K → Type 0) (peers : Peers) : Type 0 where
   pub seen : PacedHostCore
   pub turn : Activity
-  pub turned : TakesHostTurn clock clock' tells peers old seen turn
+  pub turned : TakesHostTurn around around' drives peers old seen turn
   pub noted : NotesIf turn.heard once seen new sessions sessions'
 
 -- what was left is written, and then each connection passes on what it holds, in these takes
@@ -83,9 +83,9 @@ pub record StepView : Type 0 where
 
 -- one step
 pub record Steps {K : Type 0} (old new : Host K) (once : Bool) (stop : Option ListenOutcome)
-    (tells : K → ℕ → K → Type 0) (peers : Peers) (step : StepView) : Type 0 where
+    (drives : K → Turn → K → Type 0) (peers : Peers) (step : StepView) : Type 0 where
   pub heard : PacedHostCore
-  pub hears : HearsAndNotesAll old.clock new.clock old.core heard old.sessions step.there once tells peers
+  pub hears : HearsAndNotesAll old.around new.around old.core heard old.sessions step.there once drives peers
   pub active : step.active ≡ hears.turn.active
   pub moved : PacedHostCore
   pub still : List Session
@@ -93,37 +93,37 @@ pub record Steps {K : Type 0} (old new : Host K) (once : Bool) (stop : Option Li
   pub tidied : Tidies once moved new.core still new.sessions stop
 
 -- a step in which the writer fails
-pub record WriterBreaksOff {K : Type 0} (old new : Host K) (once : Bool) (tells : K → ℕ → K → Type 0)
+pub record WriterBreaksOff {K : Type 0} (old new : Host K) (once : Bool) (drives : K → Turn → K → Type 0)
     (peers : Peers) (step : StepView) : Type 0 where
   pub heard : PacedHostCore
-  pub hears : HearsAndNotesAll old.clock new.clock old.core heard old.sessions step.there once tells peers
+  pub hears : HearsAndNotesAll old.around new.around old.core heard old.sessions step.there once drives peers
   pub active : step.active ≡ hears.turn.active
   pub moves : MovesSome heard new.core step.there new.sessions old.left new.left old.written new.written step.takes
 
 -- a step, by why it stops the host, if it does. The wait after a step changes nothing
-abbrev pub StepsTo : {K : Type 0} → Host K → Host K → Bool → Option ListenOutcome → (K → ℕ → K → Type 0) → Peers → StepView → Type 0
-StepsTo old new once None tells peers step = Steps old new once None tells peers step
-StepsTo old new once (Some Ended) tells peers step = Steps old new once (Some Ended) tells peers step
-StepsTo old new once (Some Lost) tells peers step = Steps old new once (Some Lost) tells peers step
-StepsTo old new once (Some Unwritten) tells peers step = WriterBreaksOff old new once tells peers step
-StepsTo old new once (Some Unwaited) tells peers step = Steps old new once None tells peers step
+abbrev pub StepsTo : {K : Type 0} → Host K → Host K → Bool → Option ListenOutcome → (K → Turn → K → Type 0) → Peers → StepView → Type 0
+StepsTo old new once None drives peers step = Steps old new once None drives peers step
+StepsTo old new once (Some Ended) drives peers step = Steps old new once (Some Ended) drives peers step
+StepsTo old new once (Some Lost) drives peers step = Steps old new once (Some Lost) drives peers step
+StepsTo old new once (Some Unwritten) drives peers step = WriterBreaksOff old new once drives peers step
+StepsTo old new once (Some Unwaited) drives peers step = Steps old new once None drives peers step
 
 -- this many steps, one after another, none of which stops the host
-abbrev pub StepsWithoutStop : {K : Type 0} → ℕ → Host K → Host K → Bool → (K → ℕ → K → Type 0) → Peers → List StepView → Type 0
-StepsWithoutStop zero old new once tells peers steps = (new ≡ old) × (steps ≡ [])
-StepsWithoutStop {K} (suc n) old new once tells peers steps = (last : Host K) × (before : List StepView)
+abbrev pub StepsWithoutStop : {K : Type 0} → ℕ → Host K → Host K → Bool → (K → Turn → K → Type 0) → Peers → List StepView → Type 0
+StepsWithoutStop zero old new once drives peers steps = (new ≡ old) × (steps ≡ [])
+StepsWithoutStop {K} (suc n) old new once drives peers steps = (last : Host K) × (before : List StepView)
     × (now : StepView) × (steps ≡ before ++ now ∷ [])
-    × StepsWithoutStop n old last once tells peers before × Steps last new once None tells peers now
+    × StepsWithoutStop n old last once drives peers before × Steps last new once None drives peers now
 
 -- a whole run: steps, and one step that stops the host. The outcome is also Lost if none of 2^64 - 1 steps
 -- did
-abbrev pub Serves : {K : Type 0} → Host K → Host K → Bool → ListenOutcome → (K → ℕ → K → Type 0) → Peers → List StepView → Type 0
-Serves {K} old new once stop tells peers steps =
+abbrev pub Serves : {K : Type 0} → Host K → Host K → Bool → ListenOutcome → (K → Turn → K → Type 0) → Peers → List StepView → Type 0
+Serves {K} old new once stop drives peers steps =
     ((count : ℕ) × (last : Host K) × (before : List StepView) × (now : StepView)
-    × (steps ≡ before ++ now ∷ []) × StepsWithoutStop count old last once tells peers before
-    × StepsTo last new once (Some stop) tells peers now)
+    × (steps ≡ before ++ now ∷ []) × StepsWithoutStop count old last once drives peers before
+    × StepsTo last new once (Some stop) drives peers now)
     ⊎ ((stop ≡ Lost) × (count : ℕ) × (count ≡ 2 ^ 64 - 1)
-    × StepsWithoutStop count old new once tells peers steps)
+    × StepsWithoutStop count old new once drives peers steps)
 
 -- the takes of all steps, one after another, and the bodies of their messages
 abbrev pub takes_of : List StepView → List Take
@@ -135,9 +135,9 @@ bytes_of steps = bodies_of (takes_of steps)
 
 -- a run that ends well. Its writer took what was left to write, and then the bodies of the messages of its
 -- takes, and nothing is left
-abbrev pub ServesWell : {K : Type 0} → Host K → Bool → Option (List ℕ) → (K → ℕ → K → Type 0) → Peers → List StepView → Type 0
-ServesWell {K} old once writes tells peers steps = (new : Host K)
-    × Serves old new once Ended tells peers steps × (new.left ≡ []) × (new.written ≡ writes)
+abbrev pub ServesWell : {K : Type 0} → Host K → Bool → Option (List ℕ) → (K → Turn → K → Type 0) → Peers → List StepView → Type 0
+ServesWell {K} old once writes drives peers steps = (new : Host K)
+    × Serves old new once Ended drives peers steps × (new.left ≡ []) × (new.written ≡ writes)
     × Appends old.written writes (old.left ++ bytes_of steps)
 
 -- if a connection was heard from, it has this id and this address
@@ -180,12 +180,12 @@ pub record BeginsListening {K : Type 0} (file : HostConfig) (start : Host K) (pe
 -- connection last. Its writer took the bodies of the messages of that connection, one after another, and
 -- nothing else
 pub record ListensWell {K : Type 0} (file : HostConfig) (once : Bool)
-    (written writes : Option (List ℕ)) (tells : K → ℕ → K → Type 0) : Type 0 where
+    (written writes : Option (List ℕ)) (drives : K → Turn → K → Type 0) : Type 0 where
   pub start : Host K
   pub peers : Peers
   pub steps : List StepView
   pub begins : BeginsListening file start peers written
-  pub serves : ServesWell start once writes tells peers steps
+  pub serves : ServesWell start once writes drives peers steps
   pub id : ℕ
   pub from : Address
   pub one : HearsOneOut steps id from

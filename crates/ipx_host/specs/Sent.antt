@@ -3,7 +3,7 @@
 use Rattle.std.specs.Prelude.{◌≡◌, ◌≢◌, ◌<◌, ◌≤◌, ℕ, false, List, [], ◌∷◌, Option, Some, None}
 use Rattle.std.specs.Io.KnownBytes.{IsAtEnd}
 use Rattle.ipx_carrier.specs.Mapping.{node_at}
-use Rattle.ipx_carrier.specs.Turns.{Peers}
+use Rattle.ipx_carrier.specs.Turns.{Peers, Turn}
 use Rattle.ipx_config.specs.declared.host.HostConfig.{HostConfig}
 use Rattle.ipx_wire.specs.declared.address.Address.{Address}
 use Rattle.ipx_wire.specs.declared.address.Socket.{Socket}
@@ -47,7 +47,7 @@ pub record IsDialing {K : Type 0} (file : HostConfig) (to : Address) (p : SendSt
 -- has nothing left of what it had. Its link is there, the end is queued, and everything that was queued on
 -- the link is acknowledged
 pub record SendsInput {K : Type 0} (file : HostConfig) (to : Address) (known left : Option (List ℕ))
-    (tells : K → ℕ → K → Type 0) : Type 0 where
+    (drives : K → Turn → K → Type 0) : Type 0 where
   pub goes : is_nowhere file to ≡ false
   pub id : ℕ
   pub peers : Peers
@@ -55,13 +55,13 @@ pub record SendsInput {K : Type 0} (file : HostConfig) (to : Address) (known lef
   pub last : SendState K
   pub dials : IsDialing file to start peers id
   pub begins : start.known ≡ known
-  pub transfers : Transfers start last tells peers id
+  pub transfers : Transfers start last drives peers id
   pub ends : last.known ≡ left
   pub all : IsAtEnd left
   pub whole : IsWholeAt last.core.endpoint id
 
 -- the same, and the file gives its connection 1 to 8,192 buffers
 pub record SendsWholeInput {K : Type 0} (file : HostConfig) (to : Address) (known left : Option (List ℕ))
-    (tells : K → ℕ → K → Type 0) : Type 0 where
+    (drives : K → Turn → K → Type 0) : Type 0 where
   pub buffers : HasBuffers file
-  pub sends : SendsInput file to known left tells
+  pub sends : SendsInput file to known left drives

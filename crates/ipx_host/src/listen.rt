@@ -4,9 +4,8 @@ ghost use Rattle.std.specs.Prelude.{◌≡◌, ◌<◌, ◌≤◌, ℕ, List, If
 ghost use Rattle.ipx_carrier.specs.Turns.{peers_of};
 ghost use Rattle.ipx_config.specs.Host.{IsHostText};
 ghost use Rattle.ipx_config.specs.Loading.{IsFileText};
-ghost use Rattle.ipx_sockets.specs.Steady.{NeverGoesBack};
+ghost use Rattle.ipx_host.specs.Turning.{Around, DrivesTurn};
 ghost use Rattle.ipx_config.specs.declared.host.HostConfig.{HostConfig as AHostFile};
-ghost use Rattle.ipx_sockets.specs.declared.clock.SteadyClock.{SteadyClock};
 ghost use Rattle.ipx_host.specs.Hosting.{ListensWell, ServesWell, StepView};
 ghost use Rattle.ipx_host.specs.Midway.{listening_at};
 
@@ -42,7 +41,7 @@ fn run_listening<R: Net + Log + Clock + Eprint, W: Write>(
     ensures well { result ≡ 0 → IfOk started.entry (λ l. (steps : List StepView) × ServesWell
         (listening_at l (W.contents writer.old))
         l.sessions.once (W.contents writer.new)
-        NeverGoesBack (peers_of l.station.host_socket.peers.items) steps) }
+        DrivesTurn (peers_of l.station.host_socket.ports.peers.items) steps) }
     ensures few { result ≤ 1 }
     ensures once { result ≡ 0 → IfOk started.entry (λ l. IsTrue l.sessions.once) }
 {
@@ -71,8 +70,8 @@ fn listen_by<R: Net + Log + Clock + Eprint, W: Write>(
     ensures once { OnOk loaded (result ≡ 0 → IsTrue once) }
     // If it ends well, the host of the file has run. Its writer took the bodies of the messages of
     // one connection, one after another.
-    ensures well { IfOk loaded (λ file. result ≡ 0 → ListensWell {K = SteadyClock R} file once
-        (W.contents writer.old) (W.contents writer.new) NeverGoesBack) }
+    ensures well { IfOk loaded (λ file. result ≡ 0 → ListensWell {K = Around R} file once
+        (W.contents writer.old) (W.contents writer.new) DrivesTurn) }
 {
     let file = match loaded {
         Ok(file) => file,
@@ -107,8 +106,8 @@ pub fn do_listen<R: Net + Log + Files + Clock + Eprint, W: Write>(
     // another, and nothing else.
     ensures well { result ≡ 0 → (text : List ℕ) × (file : AHostFile)
         × IsFileText text × IsHostText text file
-        × ListensWell {K = SteadyClock R} file once (W.contents writer.old) (W.contents writer.new)
-        NeverGoesBack }
+        × ListensWell {K = Around R} file once (W.contents writer.old) (W.contents writer.new)
+        DrivesTurn }
     // If the file has a fault, nothing is written.
     ensures untouched { result ≡ 2 → writer.new ≡ writer.old }
 {

@@ -8,7 +8,7 @@ ghost use Rattle.ipx_sockets.specs.PollEvents.{Watched};
 ghost use Rattle.ipx_sockets.specs.Senders.{udp_fds};
 ghost use Rattle.ipx_sockets.specs.SourceFilter.{drops_in};
 ghost use Rattle.ipx_sockets.specs.AccessLists.{access_by};
-ghost use Rattle.ipx_sockets.specs.Steady.{NeverGoesBack};
+ghost use Rattle.ipx_host.specs.Turning.{DrivesTurn};
 ghost use Rattle.ipx_wire.specs.declared.address.Socket.{Socket};
 ghost use Rattle.spx_messages.specs.EndpointView.{buffers_at, held_at};
 ghost use Rattle.ipx_host.specs.Access.{guarded_host};
@@ -92,7 +92,7 @@ impl<'a, R: Clock> Drop for ListeningHost<'a, R> {
 }
 
 impl<'a, R: Net + Log + Clock> ListeningHost<'a, R> {
-    ghost use Rattle.ipx_host.specs.Midway.{listening_at};
+    ghost use Rattle.ipx_host.specs.Midway.{around_of, listening_at};
 
     /// Opens a host that listens at the socket of its file. It holds no connection yet.
     pub fn open(
@@ -124,13 +124,13 @@ impl<'a, R: Net + Log + Clock> ListeningHost<'a, R> {
             named_in l.station.core.from ≡ named_in file.now.from) }
         ensures own { IfOk result (λ l. l.station.core.network ≡ file.now.network) }
         ensures peers { IfOk result (λ l.
-            peers_of l.station.host_socket.peers.items ≡ (file.now.router ∷ []) ∷ []) }
+            peers_of l.station.host_socket.ports.peers.items ≡ (file.now.router ∷ []) ∷ []) }
         // The file says which hosts it receives from and sends to.
         ensures access_list { IfOk result (λ l.
-            map access_by l.station.host_socket.device.access_lists.items ≡ guarded_host file.now None ∷ []) }
+            map access_by l.station.host_socket.ports.device.access_lists.items ≡ guarded_host file.now None ∷ []) }
         // It watches its one socket, and standard output if it can be polled, and has not waited.
         ensures watches { IfOk result (λ l. (gate : Option ℤ) × (l.station.poller.trace.items
-            ≡ map Watched (udp_fds l.station.host_socket.device.device.sockets.items)
+            ≡ map Watched (udp_fds l.station.host_socket.ports.device.device.sockets.items)
             ++ watched_if gate)) }
     {
         let mut station = RunningHost::open(rt, alloc, file, None)?;
@@ -149,17 +149,17 @@ impl<'a, R: Net + Log + Clock> ListeningHost<'a, R> {
     /// Takes a turn, and notes the datagram that was received.
     fn hear(&mut self, rt: &R, alloc: Global) -> Activity
         // More may be waiting after a filtered datagram.
-        ensures kept { drops_in self.old.station.host_socket.device.kept
-            < drops_in self.new.station.host_socket.device.kept → IsTrue result.active }
-        ensures hears { (hears : HearsAndNotesAll self.old.station.clock self.new.station.clock
+        ensures kept { drops_in self.old.station.host_socket.ports.device.kept
+            < drops_in self.new.station.host_socket.ports.device.kept → IsTrue result.active }
+        ensures hears { (hears : HearsAndNotesAll (around_of self.old.station) (around_of self.new.station)
             self.old.station.core self.new.station.core
             self.old.sessions.held.items self.new.sessions.held.items self.old.sessions.once
-            NeverGoesBack (peers_of self.old.station.host_socket.peers.items))
+            DrivesTurn (peers_of self.old.station.host_socket.ports.peers.items))
             × (hears.turn ≡ result)
             × (self.new.station.refused ≡ refused_after hears.turned self.old.station.refused) }
-        ensures peers { self.new.station.host_socket.peers ≡ self.old.station.host_socket.peers }
-        ensures access { map access_by self.new.station.host_socket.device.access_lists.items
-            ≡ map access_by self.old.station.host_socket.device.access_lists.items }
+        ensures peers { self.new.station.host_socket.ports.peers ≡ self.old.station.host_socket.ports.peers }
+        ensures access { map access_by self.new.station.host_socket.ports.device.access_lists.items
+            ≡ map access_by self.old.station.host_socket.ports.device.access_lists.items }
         // The counts of connections that are due after the turn are logged, before the datagram is
         // noted.
         ensures told { LogsCounts self.old.sessions self.new.sessions self.new.station.core.moment }
@@ -184,17 +184,17 @@ impl<'a, R: Net + Log + Clock> ListeningHost<'a, R> {
         writer: &mut W,
     ) -> Result<bool, ListenOutcome>
         // More may be waiting after a filtered datagram.
-        ensures kept { drops_in self.old.station.host_socket.device.kept
-            < drops_in self.new.station.host_socket.device.kept → IfOk result IsTrue }
+        ensures kept { drops_in self.old.station.host_socket.ports.device.kept
+            < drops_in self.new.station.host_socket.ports.device.kept → IfOk result IsTrue }
         // After a turn that did something there may be more to do.
         ensures steps { (step : StepView) × StepsTo (listening_at self.old (W.contents writer.old))
             (listening_at self.new (W.contents writer.new))
             self.old.sessions.once (stop_in result)
-            NeverGoesBack (peers_of self.old.station.host_socket.peers.items) step
+            DrivesTurn (peers_of self.old.station.host_socket.ports.peers.items) step
             × IfOk result (λ more. IsTrue step.active → IsTrue more) }
-        ensures peers { self.new.station.host_socket.peers ≡ self.old.station.host_socket.peers }
-        ensures access { map access_by self.new.station.host_socket.device.access_lists.items
-            ≡ map access_by self.old.station.host_socket.device.access_lists.items }
+        ensures peers { self.new.station.host_socket.ports.peers ≡ self.old.station.host_socket.ports.peers }
+        ensures access { map access_by self.new.station.host_socket.ports.device.access_lists.items
+            ≡ map access_by self.old.station.host_socket.ports.device.access_lists.items }
         ensures poller { self.new.station.poller ≡ self.old.station.poller }
         ensures unwaited { result ≢ Err Stops.Unwaited }
         ensures written { result ≡ Err Stops.Ended
@@ -215,18 +215,18 @@ impl<'a, R: Net + Log + Clock> ListeningHost<'a, R> {
         writer: &mut W,
     ) -> Result<(), ListenOutcome>
         // More may be waiting after a filtered datagram, so the host does not wait.
-        ensures kept { drops_in self.old.station.host_socket.device.kept
-            < drops_in self.new.station.host_socket.device.kept →
+        ensures kept { drops_in self.old.station.host_socket.ports.device.kept
+            < drops_in self.new.station.host_socket.ports.device.kept →
             self.new.station.poller ≡ self.old.station.poller }
         // After a turn that did something it does not wait.
         ensures steps { (step : StepView) × StepsTo (listening_at self.old (W.contents writer.old))
             (listening_at self.new (W.contents writer.new))
             self.old.sessions.once (stop_in result)
-            NeverGoesBack (peers_of self.old.station.host_socket.peers.items) step
+            DrivesTurn (peers_of self.old.station.host_socket.ports.peers.items) step
             × (IsTrue step.active → self.new.station.poller ≡ self.old.station.poller) }
-        ensures peers { self.new.station.host_socket.peers ≡ self.old.station.host_socket.peers }
-        ensures access { map access_by self.new.station.host_socket.device.access_lists.items
-            ≡ map access_by self.old.station.host_socket.device.access_lists.items }
+        ensures peers { self.new.station.host_socket.ports.peers ≡ self.old.station.host_socket.ports.peers }
+        ensures access { map access_by self.new.station.host_socket.ports.device.access_lists.items
+            ≡ map access_by self.old.station.host_socket.ports.device.access_lists.items }
         // The host waits only while no link has anything to do and no connection needs an action.
         ensures rests { MayRest self.new.station.core self.new.sessions.held.items
             self.old.station.poller self.new.station.poller }
@@ -252,7 +252,7 @@ impl<'a, R: Net + Log + Clock> ListeningHost<'a, R> {
         ensures serves { (steps : List StepView) × Serves (listening_at self.old (W.contents writer.old))
             (listening_at self.new (W.contents writer.new))
             self.old.sessions.once result
-            NeverGoesBack (peers_of self.old.station.host_socket.peers.items) steps
+            DrivesTurn (peers_of self.old.station.host_socket.ports.peers.items) steps
             × Writes (left_of self.old.sessions.output ++ bytes_of steps)
             (left_of self.new.sessions.output)
             (W.contents writer.old) (W.contents writer.new) }
@@ -286,7 +286,7 @@ impl<'a, R: Net + Log + Clock + Eprint> ListeningHost<'a, R> {
             (listening_at self.old (W.contents writer.old))
             (listening_at self.new (W.contents writer.new))
             self.old.sessions.once stop
-            NeverGoesBack (peers_of self.old.station.host_socket.peers.items) steps
+            DrivesTurn (peers_of self.old.station.host_socket.ports.peers.items) steps
             × Writes (left_of self.old.sessions.output ++ bytes_of steps)
             (left_of self.new.sessions.output)
             (W.contents writer.old) (W.contents writer.new)

@@ -10,7 +10,6 @@ ghost use Rattle.ipx_sockets.specs.PollEvents.{Watched};
 ghost use Rattle.ipx_sockets.specs.Senders.{udp_fds};
 ghost use Rattle.ipx_sockets.specs.SourceFilter.{drops_in};
 ghost use Rattle.ipx_sockets.specs.AccessLists.{access_by};
-ghost use Rattle.ipx_sockets.specs.Steady.{NeverGoesBack};
 ghost use Rattle.ipx_wire.specs.declared.address.Socket.{Socket};
 ghost use Rattle.spx_link.specs.Links.{count_of};
 ghost use Rattle.spx_messages.specs.EndpointView.{buffers_at, held_at};
@@ -19,7 +18,7 @@ ghost use Rattle.ipx_host.specs.Access.{guarded_host};
 ghost use Rattle.ipx_host.specs.HostLines.{counts_of_host, host_counts};
 ghost use Rattle.ipx_sockets.specs.Polling.{WaitsOnce, watched_if};
 ghost use Rattle.ipx_host.specs.Sleeping.{IsSleep};
-ghost use Rattle.ipx_host.specs.Turning.{TakesHostTurn, TellsOf, refused_after};
+ghost use Rattle.ipx_host.specs.Turning.{DrivesTurn, TakesHostTurn, TellsOf, around, marked_port, refused_after};
 
 use crate::access::access_list_of;
 use crate::eviction::count_if;
@@ -27,7 +26,9 @@ use crate::paced_host_core::{PacedHostCore, copy_origins};
 use crate::room::warn_small_rcvbuf;
 use crate::start::{StartFault, check_streams};
 use crate::telling::{Counts, Telling};
-use ipx_carrier::{CountsFiltered, Report, RunFault, node_of, turn};
+use ipx_carrier::{
+    CountsFiltered, OwnedRfc1234Ports, Report, RunFault, node_of, run_once_over_ports,
+};
 use ipx_config::HostConfig;
 use ipx_sockets::{AccessList, Poller, SourceFilter, SteadyClock, UdpSockets, WaitFault};
 use log::Log;
@@ -53,24 +54,16 @@ pub struct Activity {
 /// port, so a turn can always begin.
 #[derive(Drop)]
 struct HostSocket {
-    device: SourceFilter<UdpSockets>,
-    peers: Vec<Vec<[u8; 4]>>,
-    ghost one_socket: { length device.device.sockets.items ≡ 1 },
-    ghost one_list: { length peers.items ≡ 1 },
+    ports: OwnedRfc1234Ports<SourceFilter<UdpSockets>>,
+    ghost one_socket: { length ports.device.device.sockets.items ≡ 1 },
 }
 
 impl HostSocket {
     /// Marks that a datagram may be waiting at its port, whether or not a wait said so.
     fn mark_all(&mut self)
-        ensures { self.new ≡ record self.old {
-          device = record self.old.device {
-            device = record self.old.device.device {
-              marks = replicate (length self.old.device.device.marks) true;
-            };
-          };
-        } }
+        ensures { self.new ≡ record self.old { ports = marked_port self.old.ports } }
     {
-        self.device.mark_all();
+        self.ports.device.mark_all();
     }
 }
 
@@ -99,21 +92,19 @@ impl<'a, R: Clock> Drop for RunningHost<'a, R> {
 }
 
 impl HostSocket {
-    /// Creates the socket of a host from one socket with its access list, and one list of peers.
+    /// Creates the socket of a host from one socket with its access list, and the list of its peers.
     fn new(
         sockets: UdpSockets,
         access_lists: Vec<AccessList>,
         peers: Vec<Vec<[u8; 4]>>,
     ) -> HostSocket
         requires one_socket { length sockets.sockets.items ≡ 1 }
-        requires one_list { length peers.items ≡ 1 }
-        ensures sockets { result.device.device ≡ sockets }
-        ensures access_lists { result.device.access_lists.items ≡ access_lists.items }
-        ensures peers { result.peers ≡ peers }
+        ensures sockets { result.ports.device.device ≡ sockets }
+        ensures access_lists { result.ports.device.access_lists.items ≡ access_lists.items }
+        ensures peers { result.ports.peers ≡ peers }
     {
         HostSocket {
-            device: SourceFilter::new(sockets, access_lists),
-            peers,
+            ports: OwnedRfc1234Ports::new(SourceFilter::new(sockets, access_lists), peers),
         }
     }
 
@@ -124,16 +115,16 @@ impl HostSocket {
         file: &HostConfig,
         dials: Option<[u8; 4]>,
     ) -> Result<(HostSocket, Poller), StartFault>
-        ensures peers { IfOk result (λ r. peers_of r.0.peers.items ≡ (file.now.router ∷ []) ∷ []) }
+        ensures peers { IfOk result (λ r. peers_of r.0.ports.peers.items ≡ (file.now.router ∷ []) ∷ []) }
         ensures udp_port { IfOk result (λ r.
-            map (λ s. s.udp_port) r.0.device.device.sockets.items ≡ file.now.udp_port ∷ []) }
-        ensures at { IfOk result (λ r. map (λ s. s.socket.at) r.0.device.device.sockets.items
+            map (λ s. s.udp_port) r.0.ports.device.device.sockets.items ≡ file.now.udp_port ∷ []) }
+        ensures at { IfOk result (λ r. map (λ s. s.socket.at) r.0.ports.device.device.sockets.items
             ≡ v4_at file.now.address file.now.udp_port ∷ []) }
         ensures access_list { IfOk result (λ r.
-            map access_by r.0.device.access_lists.items ≡ guarded_host file.now dials ∷ []) }
+            map access_by r.0.ports.device.access_lists.items ≡ guarded_host file.now dials ∷ []) }
         // The poll watches its socket, and nothing else, and has not waited.
         ensures watches { IfOk result (λ r.
-            r.1.trace.items ≡ map Watched (udp_fds r.0.device.device.sockets.items)) }
+            r.1.trace.items ≡ map Watched (udp_fds r.0.ports.device.device.sockets.items)) }
     {
         let router = vec![in alloc; file.router]?;
         let peers = vec![in alloc; router]?;
@@ -211,18 +202,18 @@ impl<'a, R: Net + Log + Clock> RunningHost<'a, R> {
         ensures own { IfOk result (λ s. s.core.network ≡ file.now.network) }
         // A broadcast goes only to its router.
         ensures peers { IfOk result (λ s.
-            peers_of s.host_socket.peers.items ≡ (file.now.router ∷ []) ∷ []) }
+            peers_of s.host_socket.ports.peers.items ≡ (file.now.router ∷ []) ∷ []) }
         // Its one socket has the UDP port of the file, and is bound at its address.
         ensures udp_port { IfOk result (λ s.
-            map (λ s. s.udp_port) s.host_socket.device.device.sockets.items ≡ file.now.udp_port ∷ []) }
-        ensures at { IfOk result (λ s. map (λ s. s.socket.at) s.host_socket.device.device.sockets.items
+            map (λ s. s.udp_port) s.host_socket.ports.device.device.sockets.items ≡ file.now.udp_port ∷ []) }
+        ensures at { IfOk result (λ s. map (λ s. s.socket.at) s.host_socket.ports.device.device.sockets.items
             ≡ v4_at file.now.address file.now.udp_port ∷ []) }
         // Its access list is that of the file and the dialed node.
         ensures access_list { IfOk result (λ s.
-            map access_by s.host_socket.device.access_lists.items ≡ guarded_host file.now dials ∷ []) }
+            map access_by s.host_socket.ports.device.access_lists.items ≡ guarded_host file.now dials ∷ []) }
         // It watches its one socket, and nothing else, and has not waited.
         ensures watches { IfOk result (λ s.
-            s.poller.trace.items ≡ map Watched (udp_fds s.host_socket.device.device.sockets.items)) }
+            s.poller.trace.items ≡ map Watched (udp_fds s.host_socket.ports.device.device.sockets.items)) }
     {
         check_streams(rt)?;
         let clock = SteadyClock::new(rt)?;
@@ -270,33 +261,33 @@ impl<'a, R: Net + Log + Clock> RunningHost<'a, R> {
     /// host continues. If a turn runs out of memory, its datagram is lost.
     pub fn turn(&mut self, rt: &R, alloc: Global) -> Activity
         // If it runs out of memory, that is counted.
-        ensures core { (taken : TakesHostTurn self.old.clock self.new.clock
-            NeverGoesBack (peers_of self.old.host_socket.peers.items) self.old.core self.new.core result)
+        ensures core { (taken : TakesHostTurn (around self.old.clock self.old.host_socket.ports)
+            (around self.new.clock self.new.host_socket.ports)
+            DrivesTurn (peers_of self.old.host_socket.ports.peers.items) self.old.core self.new.core result)
             × (self.new.refused ≡ refused_after taken self.old.refused) }
         // A filtered datagram counts as activity, since more may be waiting after it.
         ensures kept { IsTrue result.kept
-            ↔ drops_in self.old.host_socket.device.kept < drops_in self.new.host_socket.device.kept }
-        ensures peers { self.new.host_socket.peers ≡ self.old.host_socket.peers }
+            ↔ drops_in self.old.host_socket.ports.device.kept < drops_in self.new.host_socket.ports.device.kept }
+        ensures peers { self.new.host_socket.ports.peers ≡ self.old.host_socket.ports.peers }
         // The access list is unchanged.
-        ensures access { map access_by self.new.host_socket.device.access_lists.items
-            ≡ map access_by self.old.host_socket.device.access_lists.items }
+        ensures access { map access_by self.new.host_socket.ports.device.access_lists.items
+            ≡ map access_by self.old.host_socket.ports.device.access_lists.items }
         ensures poller { self.new.poller ≡ self.old.poller }
         // Exactly the warnings that are due after the turn are printed.
-        ensures told { AreLoggedIfDue (counts_of_host (host_counts self.new.host_socket.device.kept
-            self.new.core.rejected self.new.host_socket.device.device.faults self.new.refused))
+        ensures told { AreLoggedIfDue (counts_of_host (host_counts self.new.host_socket.ports.device.kept
+            self.new.core.rejected self.new.host_socket.ports.device.device.faults self.new.refused))
             self.new.core.moment self.old.telling.causes self.new.telling.causes }
     {
         // (a host has one port: each turn checks it, whether or not the wait reported it)
         self.host_socket.mark_all();
-        let before = self.host_socket.device.filtered();
-        let ran = turn(
+        let before = self.host_socket.ports.device.filtered();
+        let ran = run_once_over_ports(
             alloc,
             &mut self.core,
-            &mut self.host_socket.device,
-            &self.host_socket.peers,
+            &mut self.host_socket.ports,
             &mut self.clock,
         );
-        let kept = self.host_socket.device.filtered() > before;
+        let kept = self.host_socket.ports.device.filtered() > before;
         self.refused = count_if(ran.is_err(), self.refused);
         let counts = self.counts();
         self.telling.tell(rt, counts, self.core.moment());
@@ -305,13 +296,13 @@ impl<'a, R: Net + Log + Clock> RunningHost<'a, R> {
 
     /// Returns how often each problem happened.
     fn counts(&self) -> Counts
-        ensures { result ≡ host_counts self.now.host_socket.device.kept self.now.core.rejected
-            self.now.host_socket.device.device.faults self.now.refused }
+        ensures { result ≡ host_counts self.now.host_socket.ports.device.kept self.now.core.rejected
+            self.now.host_socket.ports.device.device.faults self.now.refused }
     {
         Counts {
-            kept: self.host_socket.device.kept(),
+            kept: self.host_socket.ports.device.kept(),
             rejected: self.core.rejected(),
-            system: self.host_socket.device.device().faults(),
+            system: self.host_socket.ports.device.device().faults(),
             memory: self.refused,
         }
     }

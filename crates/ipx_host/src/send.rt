@@ -5,8 +5,7 @@ ghost use Rattle.std.specs.Io.KnownBytes.{IsAtEnd};
 ghost use Rattle.ipx_carrier.specs.Turns.{peers_of};
 ghost use Rattle.ipx_config.specs.Host.{IsHostText};
 ghost use Rattle.ipx_config.specs.Loading.{IsFileText};
-ghost use Rattle.ipx_sockets.specs.Steady.{NeverGoesBack};
-ghost use Rattle.ipx_sockets.specs.declared.clock.SteadyClock.{SteadyClock};
+ghost use Rattle.ipx_host.specs.Turning.{Around, DrivesTurn};
 ghost use Rattle.ipx_wire.specs.declared.address.Address.{Address};
 ghost use Rattle.ipx_config.specs.Destinations.{peer_address_of, is_nowhere};
 ghost use Rattle.ipx_host.specs.Midway.{sending_at};
@@ -36,10 +35,10 @@ fn send_opened<R: Net + Log + Clock + Eprint, I: Read>(
     ensures status { result < 2 }
     ensures unopened { OnErr opened.entry ((result ≡ 1) × (reader.new ≡ reader.old)) }
     // If it ends well, it was a transfer that began with the opened host.
-    ensures sent { IfOk opened.entry (λ s. result ≡ 0 → (last : SendState (SteadyClock R))
+    ensures sent { IfOk opened.entry (λ s. result ≡ 0 → (last : SendState (Around R))
         × Transfers (sending_at s (I.remaining reader.old))
-        last NeverGoesBack
-        (peers_of s.station.host_socket.peers.items) s.id
+        last DrivesTurn
+        (peers_of s.station.host_socket.ports.peers.items) s.id
         × (last.known ≡ I.remaining reader.new)) }
     // If the opened host had read nothing before, all of the input is read.
     ensures all { IfOk opened.entry (λ s. (s.input.read ≡ false) × (s.input.closed ≡ false)) → result ≡ 0
@@ -69,8 +68,8 @@ fn send_loaded<R: Net + Log + Clock + Eprint, I: Read>(
         → result < 2) }
     // If it ends well, the host of the file sent to the address all that the reader had.
     ensures sent { IfOk loaded (λ file. result ≡ 0
-        → SendsInput {K = SteadyClock R} file (peer_address_of file to)
-        (I.remaining reader.old) (I.remaining reader.new) NeverGoesBack) }
+        → SendsInput {K = Around R} file (peer_address_of file to)
+        (I.remaining reader.old) (I.remaining reader.new) DrivesTurn) }
     ensures unloaded { IfErr loaded (λ status. (result ≡ status) × (reader.new ≡ reader.old)) }
 {
     let file = match loaded {
@@ -116,8 +115,8 @@ pub fn do_send<R: Net + Log + Files + Clock + Eprint, I: Read>(
     // the end too.
     ensures sent { result ≡ 0 → (text : List ℕ) × (file : HostConfig) × (to : Address)
         × IsFileText text × IsHostText text file × NamesAddress target.entry to
-        × SendsWholeInput {K = SteadyClock R} file (peer_address_of file to)
-        (I.remaining reader.old) (I.remaining reader.new) NeverGoesBack }
+        × SendsWholeInput {K = Around R} file (peer_address_of file to)
+        (I.remaining reader.old) (I.remaining reader.new) DrivesTurn }
 {
     let to = match target.address() {
         Ok(to) => to,

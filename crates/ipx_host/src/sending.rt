@@ -7,7 +7,7 @@ ghost use Rattle.ipx_sockets.specs.PollEvents.{Watched};
 ghost use Rattle.ipx_sockets.specs.Senders.{udp_fds};
 ghost use Rattle.ipx_sockets.specs.SourceFilter.{drops_in};
 ghost use Rattle.ipx_sockets.specs.AccessLists.{access_by};
-ghost use Rattle.ipx_sockets.specs.Steady.{NeverGoesBack};
+ghost use Rattle.ipx_host.specs.Turning.{DrivesTurn};
 ghost use Rattle.ipx_wire.specs.declared.address.Address.{Address};
 ghost use Rattle.spx_messages.specs.EndpointView.{held_at};
 ghost use Rattle.ipx_host.specs.Books.{EntersAcknowledged};
@@ -84,13 +84,13 @@ impl<'a, R: Net + Log + Clock + Eprint> SendingHost<'a, R> {
         shows: bool,
     ) -> Result<SendingHost<'a, R>, StartFault>
         ensures dialing { IfOk result (λ s. (known : Option (List ℕ)) → IsDialing file.now to
-            (sending_at s known) (peers_of s.station.host_socket.peers.items) s.id) }
+            (sending_at s known) (peers_of s.station.host_socket.ports.peers.items) s.id) }
         // Its access list is that of its file and the node that it dials.
-        ensures access_list { IfOk result (λ s. map access_by s.station.host_socket.device.access_lists.items
+        ensures access_list { IfOk result (λ s. map access_by s.station.host_socket.ports.device.access_lists.items
             ≡ guarded_host file.now (ip_dialed file.now to) ∷ []) }
         // It watches its one socket, and standard input if it can be polled, and has not waited.
         ensures watches { IfOk result (λ s. (gate : Option ℤ) × (s.station.poller.trace.items
-            ≡ map Watched (udp_fds s.station.host_socket.device.device.sockets.items)
+            ≡ map Watched (udp_fds s.station.host_socket.ports.device.device.sockets.items)
             ++ watched_if gate)) }
     {
         let mut station = RunningHost::open(rt, alloc, file, dialed_ip(file, to))?;
@@ -183,8 +183,8 @@ impl<'a, R: Net + Log + Clock + Eprint> SendingHost<'a, R> {
     /// Takes a turn, and reads. Returns whether there may be more to do at once.
     fn step<I: Read>(&mut self, rt: &R, alloc: Global, reader: &mut I) -> Result<bool, SendOutcome>
         // More may be waiting after a filtered datagram.
-        ensures kept { drops_in self.old.station.host_socket.device.kept
-            < drops_in self.new.station.host_socket.device.kept → IfOk result IsTrue }
+        ensures kept { drops_in self.old.station.host_socket.ports.device.kept
+            < drops_in self.new.station.host_socket.ports.device.kept → IfOk result IsTrue }
         ensures id { self.new.id ≡ self.old.id }
         // The host notes, judges and feeds by the state after the turn.
         // After a turn that did something there may be more to do.
@@ -192,10 +192,10 @@ impl<'a, R: Net + Log + Clock + Eprint> SendingHost<'a, R> {
             (λ turn. IfOk result (λ more. IsTrue turn.active → IsTrue more))
             (sending_at self.old (I.remaining reader.old))
             (sending_at self.new (I.remaining reader.new))
-            result NeverGoesBack (peers_of self.old.station.host_socket.peers.items) self.old.id }
-        ensures peers { self.new.station.host_socket.peers ≡ self.old.station.host_socket.peers }
-        ensures access { map access_by self.new.station.host_socket.device.access_lists.items
-            ≡ map access_by self.old.station.host_socket.device.access_lists.items }
+            result DrivesTurn (peers_of self.old.station.host_socket.ports.peers.items) self.old.id }
+        ensures peers { self.new.station.host_socket.ports.peers ≡ self.old.station.host_socket.ports.peers }
+        ensures access { map access_by self.new.station.host_socket.ports.device.access_lists.items
+            ≡ map access_by self.old.station.host_socket.ports.device.access_lists.items }
         ensures poller { self.new.station.poller ≡ self.old.station.poller }
         ensures done { result ≡ Err Verdicts.Done
             → IsWholeAt self.new.station.core.endpoint self.new.id }
@@ -236,8 +236,8 @@ impl<'a, R: Net + Log + Clock + Eprint> SendingHost<'a, R> {
         reader: &mut I,
     ) -> Result<(), SendOutcome>
         // More may be waiting after a filtered datagram, so the host does not wait.
-        ensures kept { drops_in self.old.station.host_socket.device.kept
-            < drops_in self.new.station.host_socket.device.kept →
+        ensures kept { drops_in self.old.station.host_socket.ports.device.kept
+            < drops_in self.new.station.host_socket.ports.device.kept →
             self.new.station.poller ≡ self.old.station.poller }
         ensures id { self.new.id ≡ self.old.id }
         // The host notes, judges and feeds by the state after the turn.
@@ -246,10 +246,10 @@ impl<'a, R: Net + Log + Clock + Eprint> SendingHost<'a, R> {
             (λ turn. IsTrue turn.active → self.new.station.poller ≡ self.old.station.poller)
             (sending_at self.old (I.remaining reader.old))
             (sending_at self.new (I.remaining reader.new))
-            result NeverGoesBack (peers_of self.old.station.host_socket.peers.items) self.old.id }
-        ensures peers { self.new.station.host_socket.peers ≡ self.old.station.host_socket.peers }
-        ensures access { map access_by self.new.station.host_socket.device.access_lists.items
-            ≡ map access_by self.old.station.host_socket.device.access_lists.items }
+            result DrivesTurn (peers_of self.old.station.host_socket.ports.peers.items) self.old.id }
+        ensures peers { self.new.station.host_socket.ports.peers ≡ self.old.station.host_socket.ports.peers }
+        ensures access { map access_by self.new.station.host_socket.ports.device.access_lists.items
+            ≡ map access_by self.old.station.host_socket.ports.device.access_lists.items }
         // The host waits only while no link has anything to do. It waits at most a second if it
         // prints the progress, or if the peer's end was seen.
         ensures waits { MayWait self.new.shows self.new.left self.new.station.core
@@ -282,7 +282,7 @@ impl<'a, R: Net + Log + Clock + Eprint> SendingHost<'a, R> {
         ensures fed { result ≡ Verdicts.Done → Transfers
             (sending_at self.old (I.remaining reader.old))
             (sending_at self.new (I.remaining reader.new))
-            NeverGoesBack (peers_of self.old.station.host_socket.peers.items) self.old.id }
+            DrivesTurn (peers_of self.old.station.host_socket.ports.peers.items) self.old.id }
         // If the transfer is done, the reader has nothing left.
         ensures all { result ≡ Verdicts.Done → (self.old.input.read ≡ true → IsAtEnd (I.remaining reader.old))
             → IsAtEnd (I.remaining reader.new) }
@@ -298,10 +298,10 @@ impl<'a, R: Net + Log + Clock + Eprint> SendingHost<'a, R> {
         // Any outcome comes from a step after some rounds, or the rounds never end.
         ensures ends { EndsWith (sending_at self.old (I.remaining reader.old))
             (sending_at self.new (I.remaining reader.new))
-            result NeverGoesBack (peers_of self.old.station.host_socket.peers.items) self.old.id
+            result DrivesTurn (peers_of self.old.station.host_socket.ports.peers.items) self.old.id
             ⊎ LastsOn (sending_at self.old (I.remaining reader.old))
             (sending_at self.new (I.remaining reader.new))
-            result NeverGoesBack (peers_of self.old.station.host_socket.peers.items) self.old.id }
+            result DrivesTurn (peers_of self.old.station.host_socket.ports.peers.items) self.old.id }
     {
         for _ in 0..u64::MAX {
             if let Err(verdict) = self.step_or_wait(rt, alloc, reader) {
@@ -340,7 +340,7 @@ impl<'a, R: Net + Log + Clock + Eprint> SendingHost<'a, R> {
         // body after another.
         ensures fed { result ≡ 0 → Transfers (sending_at self.old (I.remaining reader.old))
             (sending_at self.new (I.remaining reader.new))
-            NeverGoesBack (peers_of self.old.station.host_socket.peers.items) self.old.id }
+            DrivesTurn (peers_of self.old.station.host_socket.ports.peers.items) self.old.id }
         // If the transfer is done, no wait failed.
         ensures waits { result ≡ 0 → (count : ℕ)
             × WaitsWell count self.old.station.poller self.new.station.poller }

@@ -1,5 +1,6 @@
 use Rattle.std.proofs.Common.{◌≡◌, ◌<◌, ◌≤◌, ◌⊎◌, ℕ, Bool, true, false, List, Option, Result, Ok, Err, inl, inr, refl, arith}
 use Rattle.std.specs.Prelude.{IfErr, IfOk}
+use Rattle.ipx_carrier.specs.Turns.{Turn}
 use Rattle.ipx_config.specs.Host.{IsHostText}
 use Rattle.ipx_config.specs.Loading.{IsFileText}
 use Rattle.ipx_config.specs.declared.host.HostConfig.{HostConfig}
@@ -45,13 +46,13 @@ buffers_of text h is = elim is.2.buffers [
 ]
 
 -- what was sent, and by which file
-sent_of : {K : Type 0} (X : Type 0) (t : Target) (to : Address) (known left : Option (List ℕ)) (tells : K → ℕ → K → Type 0) (loaded : Result HostConfig ℕ) (r : ℕ)
+sent_of : {K : Type 0} (X : Type 0) (t : Target) (to : Address) (known left : Option (List ℕ)) (drives : K → Turn → K → Type 0) (loaded : Result HostConfig ℕ) (r : ℕ)
     → IfErr loaded (λ s. (s ≡ 1) ⊎ (s ≡ 2)) → IfErr loaded (λ s. (r ≡ s) × X) → IfOk loaded (λ h. (text : List ℕ) × IsFileText text × IsHostText text h) → NamesAddress t to
-    → IfOk loaded (λ h. r ≡ 0 → SendsInput h (peer_address_of h to) known left tells) → r ≡ 0
-    → (text : List ℕ) × (file : HostConfig) × (a : Address) × IsFileText text × IsHostText text file × NamesAddress t a × SendsWholeInput file (peer_address_of file a) known left tells
-sent_of X t to known left tells (Ok h) r fault unloaded host named sent zero = (host.0, h, to, host.1, host.2, named, record { buffers = buffers_of host.0 h host.2; sends = sent zero })
-sent_of X t to known left tells (Err s) r (inl e) unloaded host named sent zero = absurd (omega (arith, unloaded.0, e, zero))
-sent_of X t to known left tells (Err s) r (inr e) unloaded host named sent zero = absurd (omega (arith, unloaded.0, e, zero))
+    → IfOk loaded (λ h. r ≡ 0 → SendsInput h (peer_address_of h to) known left drives) → r ≡ 0
+    → (text : List ℕ) × (file : HostConfig) × (a : Address) × IsFileText text × IsHostText text file × NamesAddress t a × SendsWholeInput file (peer_address_of file a) known left drives
+sent_of X t to known left drives (Ok h) r fault unloaded host named sent zero = (host.0, h, to, host.1, host.2, named, record { buffers = buffers_of host.0 h host.2; sends = sent zero })
+sent_of X t to known left drives (Err s) r (inl e) unloaded host named sent zero = absurd (omega (arith, unloaded.0, e, zero))
+sent_of X t to known left drives (Err s) r (inr e) unloaded host named sent zero = absurd (omega (arith, unloaded.0, e, zero))
 
 pub returns-clause-few : goal.returns-clause-few
 returns-clause-few g c =

@@ -1,8 +1,9 @@
 use Rattle.std.proofs.Common.{◌∙◌, Err, None, Some, ap, refl, sym}
 use Rattle.std.proofs.lemmas.Bool.{or_left}
 use Rattle.std.proofs.lemmas.Result.{err_from_is_err_and}
-use Rattle.ipx_host.specs.Midway.{listening_at}
+use Rattle.ipx_host.specs.Midway.{around_of, listening_at}
 use Rattle.ipx_host.proofs.Hosted.{broken_off, stepped, tidied_to}
+use Rattle.ipx_host.proofs.Surrounding.{same_around}
 use Rattle.ipx_host.proofs.Polled.{stopped}
 use Rattle.ipx_host.proofs.listening.ListeningHost.step.Goals as goal
 
@@ -22,7 +23,7 @@ returns-in_err-reap-clause-steps g c =
       record { active = c.hear-turn.ensures.hears.0.turn.active; there = heard.sessions.held.items; takes = moves.0 },
       tidied_to (listening_at old (held c.args.writer.now))
           (listening_at (record heard { station = station; sessions = new }) (held c.pass.new.writer)) old.sessions.once stop _ _ _
-          (stepped old.station.clock heard.station.clock heard.station.clock station.clock old.station.core heard.station.core core station.core old.sessions.held.items heard.sessions.held.items passed.held.items new.held.items old.sessions.output heard.sessions.output passed.output new.output old.sessions.once passed.once (held c.args.writer.now) (held c.pass.new.writer) (Some stop) _ _ moves.0 _ c.hear-turn.ensures.hears.0 refl c.hear-turn.ensures.output refl (c.pass.ensures.once ∙ c.hear-turn.ensures.once) moves.1 c.reap.ensures.clock c.reap.ensures.output c.in_err-reap.ensures.tidies),
+          (stepped (around_of old.station) (around_of heard.station) (around_of heard.station) (around_of station) old.station.core heard.station.core core station.core old.sessions.held.items heard.sessions.held.items passed.held.items new.held.items old.sessions.output heard.sessions.output passed.output new.output old.sessions.once passed.once (held c.args.writer.now) (held c.pass.new.writer) (Some stop) _ _ moves.0 _ c.hear-turn.ensures.hears.0 refl c.hear-turn.ensures.output refl (c.pass.ensures.once ∙ c.hear-turn.ensures.once) moves.1 (same_around heard.station station c.reap.ensures.clock c.reap.ensures.host_socket) c.reap.ensures.output c.in_err-reap.ensures.tidies),
       tt,
     )
 
@@ -36,7 +37,7 @@ returns-in_err-moved-clause-steps g c =
     let p = err_from_is_err_and c.from_residual.result c.from_residual.ensures.1 in
     rw (p.1, p.2) (
       record { active = c.hear-turn.ensures.hears.0.turn.active; there = heard.sessions.held.items; takes = moves.0 },
-      broken_off old.station.clock heard.station.clock old.station.core heard.station.core c.pass.new.core old.sessions.held.items heard.sessions.held.items passed.held.items old.sessions.output heard.sessions.output passed.output old.sessions.once (held c.args.writer.now) (held c.pass.new.writer) _ _ moves.0 _ c.hear-turn.ensures.hears.0 refl c.hear-turn.ensures.output moves.1,
+      broken_off (around_of old.station) (around_of heard.station) old.station.core heard.station.core c.pass.new.core old.sessions.held.items heard.sessions.held.items passed.held.items old.sessions.output heard.sessions.output passed.output old.sessions.once (held c.args.writer.now) (held c.pass.new.writer) _ _ moves.0 _ c.hear-turn.ensures.hears.0 refl c.hear-turn.ensures.output moves.1,
       tt,
     )
 
@@ -51,7 +52,7 @@ returns-clause-steps g c =
     let station = c.reap.new.station in
     let moves = c.in_ok-moved.ensures.all in (
       record { active = c.hear-turn.ensures.hears.0.turn.active; there = heard.sessions.held.items; takes = moves.0 },
-      stepped old.station.clock heard.station.clock heard.station.clock station.clock old.station.core heard.station.core core station.core old.sessions.held.items heard.sessions.held.items passed.held.items new.held.items old.sessions.output heard.sessions.output passed.output new.output old.sessions.once passed.once (held c.args.writer.now) (held c.pass.new.writer) None _ _ moves.0 _ c.hear-turn.ensures.hears.0 refl c.hear-turn.ensures.output refl (c.pass.ensures.once ∙ c.hear-turn.ensures.once) moves.1 c.reap.ensures.clock c.reap.ensures.output c.in_ok-reap.ensures.tidies,
+      stepped (around_of old.station) (around_of heard.station) (around_of heard.station) (around_of station) old.station.core heard.station.core core station.core old.sessions.held.items heard.sessions.held.items passed.held.items new.held.items old.sessions.output heard.sessions.output passed.output new.output old.sessions.once passed.once (held c.args.writer.now) (held c.pass.new.writer) None _ _ moves.0 _ c.hear-turn.ensures.hears.0 refl c.hear-turn.ensures.output refl (c.pass.ensures.once ∙ c.hear-turn.ensures.once) moves.1 (same_around heard.station station c.reap.ensures.clock c.reap.ensures.host_socket) c.reap.ensures.output c.in_ok-reap.ensures.tidies,
       λ active. or_left c.hear-turn.result.active c.in_ok-moved.moved (sym (ap (λ t. t.active) c.hear-turn.ensures.hears.1) ∙ active),
     )
 

@@ -2,7 +2,7 @@ use Rattle.std.proofs.Common.{◌∙◌, ℕ, zero, List, [], Option, Err, inl, 
 use Rattle.std.specs.List.{concat}
 use Rattle.std.specs.Io.KnownBytes.{Consumes, IsAtEnd}
 use Rattle.ipx_carrier.specs.Turns.{peers_of}
-use Rattle.ipx_host.specs.Midway.{sending_at}
+use Rattle.ipx_host.specs.Midway.{around_of, sending_at}
 use Rattle.ipx_host.specs.SendRounds.{place}
 use Rattle.ipx_host.specs.SendSteps.{noted}
 use Rattle.ipx_host.specs.Transfer.{IsWholeAt}
@@ -41,7 +41,7 @@ returns-in-Err-clause-fed g c = λ done.
     let new = c.step_or_wait.new.self in
     let fed = c.loop.invariant.fed in
     let known = g.I.Read.remaining c.args.reader.now in
-    let start = place old.station.clock old.station.core (noted old.joined old.left) old.input.read old.input.closed old.input.acked_bytes known in
+    let start = place (around_of old.station) old.station.core (noted old.joined old.left) old.input.read old.input.closed old.input.acked_bytes known in
     let before = sending_at now (g.I.Read.remaining c.loop.reader) in
     let after = sending_at new (g.I.Read.remaining c.step_or_wait.new.reader) in
     let among = ap (λ l. peers_of l.items) c.loop.invariant.peers in

@@ -4,7 +4,7 @@ use Rattle.std.proofs.lemmas.Bool.{or_left}
 use Rattle.std.proofs.lemmas.Result.{err_from_is_err_and}
 use Rattle.spx_link.specs.declared.state.State.TheVariants.{Live}
 use Rattle.ipx_host.specs.Feeding.{Feeds, FeedState, LeavesIntake}
-use Rattle.ipx_host.specs.Midway.{feeding_at}
+use Rattle.ipx_host.specs.Midway.{around_of, feeding_at}
 use Rattle.ipx_host.specs.declared.paced_host_core.PacedHostCore.{PacedHostCore}
 use Rattle.ipx_host.specs.Transfer.{ended_at, state_at}
 use Rattle.ipx_host.specs.declared.send_outcome.SendOutcome.{SendOutcome}
@@ -19,13 +19,13 @@ returns-clause-steps g c =
     let look = c.look-state.new.self in
     let told = c.look-state.ensures in
     let looked : look.station.core ≡ seen = ap (λ s. s.core) told.station in
-    let timed : look.station.clock ≡ c.turn-turn.new.self.clock = ap (λ s. s.clock) told.station in
+    let timed : around_of look.station ≡ around_of c.turn-turn.new.self = ap around_of told.station in
     let dropped = c.drop_what_came.new.endpoint in
     let mid = c.if-eq.self in
     let shown = c.show.new.self in
     let same = c.show.ensures in
     let stays : shown.station.core ≡ mid.station.core = ap (λ s. s.core) same.station in
-    let ticked : shown.station.clock ≡ mid.station.clock = ap (λ s. s.clock) same.station in
+    let ticked : around_of shown.station ≡ around_of mid.station = ap around_of same.station in
     let known = g.I.Read.remaining c.args.reader.now in
     let left = g.I.Read.remaining c.if-eq.reader in
     let start = feeding_at look.input dropped known in
@@ -40,7 +40,7 @@ returns-clause-steps g c =
     ] in
     let joined : mid.joined ≡ look.joined = elim c.if-eq.branch [ then-eq+in_ok-fed w ↦ rw w.self-is refl | else-eq w ↦ rw w.self-is refl ] in
     let gone : mid.left ≡ look.left = elim c.if-eq.branch [ then-eq+in_ok-fed w ↦ rw w.self-is refl | else-eq w ↦ rw w.self-is refl ] in
-    let ticks : mid.station.clock ≡ look.station.clock = elim c.if-eq.branch [ then-eq+in_ok-fed w ↦ rw w.self-is refl | else-eq w ↦ rw w.self-is refl ] in
+    let ticks : around_of mid.station ≡ around_of look.station = elim c.if-eq.branch [ then-eq+in_ok-fed w ↦ rw w.self-is refl | else-eq w ↦ rw w.self-is refl ] in
     let goes : mid.station.core ≡ record look.station.core { endpoint = mid.station.core.endpoint } = elim c.if-eq.branch [ then-eq+in_ok-fed w ↦ rw w.self-is refl | else-eq w ↦ rw w.self-is refl ] in
     let shows = same_intake mid.station.core.endpoint shown.station.core.endpoint mid.input.read shown.input.read mid.input.closed shown.input.closed mid.input.acked_bytes shown.input.acked_bytes left (ap (λ (k : PacedHostCore). k.endpoint) stays) (ap (λ i. i.read) same.input) (ap (λ i. i.closed) same.input) (ap (λ i. i.acked_bytes) same.input) in
     let new = feeding_at shown.input shown.station.core.endpoint left in
@@ -65,7 +65,7 @@ returns-in-Some-clause-steps g c =
     let look = c.look-state.new.self in
     let told = c.look-state.ensures in
     let looked : look.station.core ≡ seen = ap (λ s. s.core) told.station in
-    let timed : look.station.clock ≡ c.turn-turn.new.self.clock = ap (λ s. s.clock) told.station in
+    let timed : around_of look.station ≡ around_of c.turn-turn.new.self = ap around_of told.station in
     let verdict = c.in-Some.verdict in
     let known = g.I.Read.remaining c.args.reader.now in
     record {
@@ -92,7 +92,7 @@ returns-in_err-fed-clause-steps g c =
     let look = c.look-state.new.self in
     let told = c.look-state.ensures in
     let looked : look.station.core ≡ seen = ap (λ s. s.core) told.station in
-    let timed : look.station.clock ≡ c.turn-turn.new.self.clock = ap (λ s. s.clock) told.station in
+    let timed : around_of look.station ≡ around_of c.turn-turn.new.self = ap around_of told.station in
     let core : PacedHostCore = record look.station.core { endpoint = c.feed.new.endpoint } in
     let seeing = sees old.joined look.joined old.left look.left seen look.station.core old.id look.id old.input.closed look.input.closed c.is_all_acked-whole.result c.waits.result c.look-state.result None told.state looked told.id told.closed told.joined told.left c.is_all_acked-whole.ensures c.waits.ensures c.in_default.ensures.verdict in
     let is : c.look-state.result ≡ Some Live = first_of (search rules, grind (arith, common_steps)) in

@@ -1,6 +1,7 @@
 use Rattle.std.proofs.Common.{inl, false, true, Bool, ◌≡◌, Err, refl, subst, sym}
 use Rattle.std.proofs.lemmas.Result.{err_from_is_err_and}
-use Rattle.ipx_host.specs.Midway.{sending_at}
+use Rattle.ipx_host.specs.Midway.{around_of, sending_at}
+use Rattle.ipx_host.proofs.Surrounding.{same_around}
 use Rattle.ipx_host.proofs.Fed.{step_err, step_ok, step_unwaited, step_waited}
 use Rattle.ipx_sockets.specs.declared.poller.Poller.{Poller}
 use Rattle.ipx_sockets.specs.Polling.{WaitsOnce}
@@ -28,7 +29,7 @@ returns-in-Ok-clause-steps g c =
     let waited = c.wait.new.self in
     let before = sending_at old (g.I.Read.remaining c.args.reader.now) in
     let after = sending_at new (g.I.Read.remaining c.step.new.reader) in
-    step_waited before new.station.clock waited.clock new.station.core waited.core _ _ _ _ _ _ _ _ old.id _ c.wait.ensures.clock c.wait.ensures.core
+    step_waited before (around_of new.station) (around_of waited) new.station.core waited.core _ _ _ _ _ _ _ _ old.id _ (same_around new.station waited c.wait.ensures.clock c.wait.ensures.host_socket) c.wait.ensures.core
     (step_ok before after c.in_ok-step.field-0 _ _ old.id _ _ (λ turn w active. absurd (not_true c.in_ok-step.field-0 c.if-branch.false (w active))) c.in_ok-step.ensures.steps)
 
 pub returns-in-Err-clause-steps : goal.returns-in-Err-clause-steps
@@ -38,7 +39,7 @@ returns-in-Err-clause-steps g c =
     let waited = c.wait.new.self in
     let before = sending_at old (g.I.Read.remaining c.args.reader.now) in
     let after = sending_at new (g.I.Read.remaining c.step.new.reader) in
-    step_waited before new.station.clock waited.clock new.station.core waited.core _ _ _ _ _ _ _ _ old.id _ c.wait.ensures.clock c.wait.ensures.core
+    step_waited before (around_of new.station) (around_of waited) new.station.core waited.core _ _ _ _ _ _ _ _ old.id _ (same_around new.station waited c.wait.ensures.clock c.wait.ensures.host_socket) c.wait.ensures.core
     (step_unwaited before after c.in_ok-step.field-0 _ _ old.id _ _ (λ turn w active. absurd (not_true c.in_ok-step.field-0 c.if-branch.false (w active))) c.in_ok-step.ensures.steps)
 
 pub returns-in_err-step-clause-steps : goal.returns-in_err-step-clause-steps
