@@ -5,11 +5,12 @@ use Rattle.ipx_carrier.specs.declared.fault.RunFault.TheVariants.{Device, OutOfM
 use Rattle.ipx_carrier.specs.declared.report.Report.{Report}
 use Rattle.ipx_carrier.specs.Counts.{report_of}
 use Rattle.ipx_carrier.specs.Device.{Reception}
-use Rattle.ipx_carrier.specs.DriverTurns.{AsksEach, SendsEach}
+use Rattle.ipx_carrier.specs.DriverTurns.{AsksEach, SendsEach, SendsSomeOf}
 use Rattle.ipx_carrier.specs.MarkedTurns.{BreaksMarkedTurn, TakesMarkedTurn}
 use Rattle.ipx_carrier.specs.Readiness.{Readiness}
 use Rattle.ipx_carrier.specs.RunFaultNumbers.{failures_after}
-use Rattle.ipx_carrier.specs.Turns.{Given, by_ip, peers_of}
+use Rattle.ipx_carrier.specs.Turns.{Given, by_ip, copies_of, peers_of}
+use Rattle.ipx_sockets.specs.SocketCalls.{FailsThroughFilter, SendsDatagram, SendsThroughFilter}
 use Rattle.ipx_sockets.specs.Steady.{NeverGoesBack}
 use Rattle.ipx_host.specs.declared.paced_host_core.PacedHostCore.{PacedHostCore}
 use Rattle.ipx_host.specs.declared.running_host.Activity.{Activity}
@@ -24,6 +25,14 @@ peers_asked (r ∷ rs) x y h = peers_asked rs h.0 y h.2 ∙ h.1.0
 peers_sent : (ps : List Given) (x y : HostPort) → SendsEach SendsAtPort ps x y → y.peers ≡ x.peers
 peers_sent [] x y h = cc
 peers_sent (p ∷ ps) x y h = peers_sent ps h.0 y h.2 ∙ h.1.0
+
+-- asking the port fails, and sending by it, only if the sockets fail, which they never do
+pub fails_to_receive_at : HostPort → ℕ → ℕ → HostPort → Type 0
+fails_to_receive_at old port size new = (new.peers ≡ old.peers) × FailsThroughFilter (λ d e. ⊥) old.device new.device
+
+pub fails_to_send_at : HostPort → Given → HostPort → Type 0
+fails_to_send_at old packet new = (new.peers ≡ old.peers) × SendsSomeOf (SendsThroughFilter SendsDatagram) (λ d datagram e. FailsThroughFilter (λ a b. ⊥) d e)
+    (copies_of (by_ip (peers_of old.peers.items)) packet) old.device new.device
 
 module _ {R : Type 0} (marks : HostPort → Readiness) (fails_to_receive : HostPort → ℕ → ℕ → HostPort → Type 0)
     (fails_to_send : HostPort → Given → HostPort → Type 0) (before after : Around R) (old new : PacedHostCore) where

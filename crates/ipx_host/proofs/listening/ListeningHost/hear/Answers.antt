@@ -1,4 +1,6 @@
-use Rattle.std.proofs.Common.{◌≡◌, Bool, List, true, false, refl, sym, ap, subst}
+use Rattle.std.proofs.Common.{◌≡◌, ◌∙◌, ℕ, Bool, List, true, false, refl, sym, ap, subst}
+use Rattle.ipx_sockets.specs.declared.throttled_log.ThrottledLog.{ThrottledLog}
+use Rattle.ipx_sockets.specs.Moments.{IsLoggedIfDue}
 use Rattle.ipx_host.specs.Hosting.{NotesIf}
 use Rattle.ipx_host.specs.Sessions.{NotesHeard}
 use Rattle.ipx_host.specs.declared.sessions.Session.{Session}
@@ -37,3 +39,21 @@ returns-else-turn-clause-hears g c = (
   refl,
   c.turn-turn.ensures.core.1,
 )
+
+-- what was logged of a count stays, and so does the time
+logged_then : (count m now : ℕ) (old told new : ThrottledLog) → m ≡ now → new ≡ told → IsLoggedIfDue count m old told → IsLoggedIfDue count now old new
+logged_then count m now old told new same kept logged =
+    subst (λ (t : ThrottledLog). IsLoggedIfDue count now old t) (sym kept) (subst (λ (n : ℕ). IsLoggedIfDue count n old told) same logged)
+
+pub returns-then-turn-clause-told : goal.returns-then-turn-clause-told
+returns-then-turn-clause-told g c =
+    let old = c.args.self.now.sessions in
+    let told = c.tell.new.self in
+    let noted = c.note.new.self in
+    let now = c.note.new.core.moment in
+    let logs = c.note.ensures.logs in
+    let same : c.moment.result ≡ now = c.moment.ensures ∙ sym (ap (λ (k : PacedHostCore). k.moment) c.note.ensures.notes.0) in (
+      logged_then old.never_heard c.moment.result now old.of_never_heard told.of_never_heard noted.of_never_heard same logs.0 c.tell.ensures.silent,
+      logged_then old.evicted c.moment.result now old.of_evicted told.of_evicted noted.of_evicted same logs.1 c.tell.ensures.evicted,
+      logged_then old.turned_away c.moment.result now old.of_turned_away told.of_turned_away noted.of_turned_away same logs.2 c.tell.ensures.turned_away,
+    )

@@ -5,6 +5,7 @@ use Rattle.std.proofs.lemmas.Result.{err_from_is_err_and}
 use Rattle.spx_link.specs.declared.state.State.TheVariants.{Live}
 use Rattle.ipx_host.specs.Feeding.{Feeds, FeedState, LeavesIntake}
 use Rattle.ipx_host.specs.Midway.{around_of, feeding_at}
+use Rattle.ipx_host.specs.Turning.{DrivesTurn}
 use Rattle.ipx_host.specs.declared.paced_host_core.PacedHostCore.{PacedHostCore}
 use Rattle.ipx_host.specs.Transfer.{ended_at, state_at}
 use Rattle.ipx_host.specs.declared.send_outcome.SendOutcome.{SendOutcome}
@@ -50,7 +51,7 @@ returns-clause-steps g c =
     record {
       seen = seen;
       turn = c.turn-turn.result;
-      turned = turned _ _ _ _ _ _ _ _ (ticked ∙ ticks ∙ timed) c.turn-turn.ensures.core.0;
+      turned = turned (around_of old.station) _ _ DrivesTurn _ _ _ _ (ticked ∙ ticks ∙ timed) c.turn-turn.ensures.core.0;
       verdict = None;
       sees = sees_later look.joined shown.joined look.left shown.left (record { joined = old.joined; left = old.left }) seen.endpoint seen.moment old.id old.input.closed None (same.joined ∙ joined) (same.left ∙ gone) seeing;
       waited = λ active. or_left c.turn-turn.result.active _ active;
@@ -71,7 +72,7 @@ returns-in-Some-clause-steps g c =
     record {
       seen = seen;
       turn = c.turn-turn.result;
-      turned = turned _ _ _ _ _ _ _ _ timed c.turn-turn.ensures.core.0;
+      turned = turned (around_of old.station) _ _ DrivesTurn _ _ _ _ timed c.turn-turn.ensures.core.0;
       verdict = Some (ended_at old.input.closed verdict);
       sees = sees old.joined look.joined old.left look.left seen look.station.core old.id look.id old.input.closed look.input.closed c.is_all_acked-whole.result c.waits.result c.look-state.result (Some verdict) told.state looked told.id told.closed told.joined told.left c.is_all_acked-whole.ensures c.waits.ensures c.in-Some.ensures.verdict;
       waited = tt;
@@ -100,7 +101,7 @@ returns-in_err-fed-clause-steps g c =
     rw (p.1, p.2) (record {
       seen = seen;
       turn = c.turn-turn.result;
-      turned = turned _ _ _ _ _ _ _ _ timed c.turn-turn.ensures.core.0;
+      turned = turned (around_of old.station) _ _ DrivesTurn _ _ _ _ timed c.turn-turn.ensures.core.0;
       verdict = None;
       sees = seeing;
       waited = tt;
