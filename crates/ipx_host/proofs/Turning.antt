@@ -27,10 +27,10 @@ peers_sent [] x y h = cc
 peers_sent (p ∷ ps) x y h = peers_sent ps h.0 y h.2 ∙ h.1.0
 
 -- asking the port fails, and sending by it, only if the sockets fail, which they never do
-pub fails_to_receive_at : HostPort → ℕ → ℕ → HostPort → Type 0
+abbrev pub fails_to_receive_at : HostPort → ℕ → ℕ → HostPort → Type 0
 fails_to_receive_at old port size new = (new.peers ≡ old.peers) × FailsThroughFilter (λ d e. ⊥) old.device new.device
 
-pub fails_to_send_at : HostPort → Given → HostPort → Type 0
+abbrev pub fails_to_send_at : HostPort → Given → HostPort → Type 0
 fails_to_send_at old packet new = (new.peers ≡ old.peers) × SendsSomeOf (SendsThroughFilter SendsDatagram) (λ d datagram e. FailsThroughFilter (λ a b. ⊥) d e)
     (copies_of (by_ip (peers_of old.peers.items)) packet) old.device new.device
 

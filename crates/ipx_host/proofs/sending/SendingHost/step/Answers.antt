@@ -1,4 +1,4 @@
-use Rattle.std.proofs.Common.{◌≡◌, ◌≢◌, ◌∙◌, ℕ, Bool, List, [], Err, None, Some, refl, sym, ap, subst, inr, arith, rules}
+use Rattle.std.proofs.Common.{◌≡◌, ◌≢◌, ◌∙◌, ℕ, Bool, true, false, List, [], Err, None, Some, refl, sym, ap, subst, inr, arith, rules}
 use Rattle.std.proofs.lemmas.Grind.{common_steps}
 use Rattle.std.proofs.lemmas.Bool.{or_left}
 use Rattle.std.proofs.lemmas.Result.{err_from_is_err_and}
@@ -9,6 +9,7 @@ use Rattle.ipx_host.specs.Turning.{DrivesTurn}
 use Rattle.ipx_host.specs.declared.paced_host_core.PacedHostCore.{PacedHostCore}
 use Rattle.ipx_host.specs.Transfer.{ended_at, state_at}
 use Rattle.ipx_host.specs.declared.send_outcome.SendOutcome.{SendOutcome}
+use Rattle.ipx_host.specs.declared.send_outcome.SendOutcome.TheVariants as Verdicts
 use Rattle.ipx_host.proofs.Fed.{same_core, same_intake, sees, sees_later, stepped, turned, went_on}
 use Rattle.ipx_host.proofs.sending.SendingHost.step.Goals as goal
 use Rattle.ipx_host.proofs.sending.SendingHost.step.Goals.{then-eq+in_ok-fed, else-eq}
@@ -85,6 +86,23 @@ returns-in-Some-clause-steps g c =
       );
       core = same_core seen look.station.core looked;
     }
+
+-- a transfer that ends as done was judged so
+judged_done : (closed : Bool) (v : SendOutcome) → ended_at closed v ≡ Verdicts.Done → v ≡ Verdicts.Done
+judged_done true v is = is
+judged_done false Verdicts.Done is = refl
+judged_done false Verdicts.Unanswered is = is
+judged_done false Verdicts.GivenUp is = is
+judged_done false Verdicts.PeerLeft is = is
+judged_done false Verdicts.Unread is = is
+judged_done false Verdicts.OutOfMemory is = is
+judged_done false Verdicts.Unwaited is = is
+
+pub returns-in-Some-clause-done : goal.returns-in-Some-clause-done
+returns-in-Some-clause-done g c = λ is.
+    let ended : c.ended_by.result ≡ Verdicts.Done = cc in
+    let done = judged_done c.look-state.new.self.input.closed c.in-Some.verdict (sym c.ended_by.ensures ∙ ended) in
+    c.is_all_acked-whole.ensures.0 (c.in-Some.ensures.done.0 (ap (λ (v : SendOutcome). Some v) done)).0
 
 pub returns-in_err-fed-clause-steps : goal.returns-in_err-fed-clause-steps
 returns-in_err-fed-clause-steps g c =
