@@ -10,12 +10,13 @@ use Rattle.ipx_carrier.specs.MarkedTurns.{BreaksMarkedTurn, TakesMarkedTurn}
 use Rattle.ipx_carrier.specs.Readiness.{Readiness}
 use Rattle.ipx_carrier.specs.RunFaultNumbers.{failures_after}
 use Rattle.ipx_carrier.specs.Turns.{Given, by_ip, copies_of, peers_of}
+use Rattle.ipx_sockets.specs.PortTurns.{HostPort, ReceivesAtPort, SendsAtPort, marked_port}
 use Rattle.ipx_sockets.specs.SocketCalls.{FailsThroughFilter, SendsDatagram, SendsThroughFilter}
 use Rattle.ipx_sockets.specs.Steady.{NeverGoesBack}
 use Rattle.ipx_host.specs.declared.paced_host_core.PacedHostCore.{PacedHostCore}
 use Rattle.ipx_host.specs.declared.running_host.Activity.{Activity}
 use Rattle.ipx_host.specs.Sessions.{raised_if}
-use Rattle.ipx_host.specs.Turning.{Around, DrivesTurn, HostPort, ReceivesAtPort, SendsAtPort, TakesHostTurn, TellsOf, gives, hears, hear_out_of_memory, marked_port, next_out_of_memory, refused_after}
+use Rattle.ipx_host.specs.Turning.{Around, DrivesTurn, TakesHostTurn, TellsOf, gives, hears, hear_out_of_memory, next_out_of_memory, refused_after}
 
 -- a port keeps its peers as it is asked, and as it sends
 peers_asked : (rs : List Reception) (x y : HostPort) → AsksEach ReceivesAtPort 1536 rs x y → y.peers ≡ x.peers

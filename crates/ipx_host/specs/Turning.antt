@@ -1,20 +1,16 @@
 -- What one turn of a running host does to its core, its clock and its port. The entry points are `TakesHostTurn`
 -- and `DrivesTurn`. Nothing here is from a public standard.
 use mathlib.Core.Logic.{inl, inr}
-use Rattle.std.specs.Prelude.{◌≡◌, ◌<◌, ◌↔◌, ◌⊎◌, ℕ, IsTrue, false, true, List, [], ◌∷◌, Option, length, replicate}
+use Rattle.std.specs.Prelude.{◌≡◌, ◌<◌, ◌↔◌, ◌⊎◌, ℕ, IsTrue, false, true, List, [], ◌∷◌, Option}
 use Rattle.ipx_carrier.specs.declared.fault.RunFault.TheVariants.{OutOfMemory}
-use Rattle.ipx_carrier.specs.declared.owned_rfc1234_ports.OwnedRfc1234Ports.{OwnedRfc1234Ports}
 use Rattle.ipx_carrier.specs.declared.report.Report.{Report}
 use Rattle.ipx_carrier.specs.Counting.{raised}
 use Rattle.ipx_carrier.specs.Counts.{report_of}
 use Rattle.ipx_carrier.specs.Device.{Datagram}
-use Rattle.ipx_carrier.specs.DriverTurns.{AsksEach, SendsEach}
-use Rattle.ipx_carrier.specs.Turns.{FailsMidTurn, Given, IsTurn, Peers, Turn, by_ip, copies_of, peers_of}
-use Rattle.ipx_sockets.specs.SocketCalls.{ReceivesPacket, ReceivesThroughFilter, SendsDatagram, SendsThroughFilter}
+use Rattle.ipx_carrier.specs.Turns.{FailsMidTurn, Given, IsTurn, Peers, Turn, by_ip}
+use Rattle.ipx_sockets.specs.PortTurns.{DrivesPort, HostPort}
 use Rattle.ipx_sockets.specs.Steady.{NeverGoesBack}
 use Rattle.ipx_sockets.specs.declared.clock.SteadyClock.{SteadyClock}
-use Rattle.ipx_sockets.specs.declared.sockets.UdpSockets.{UdpSockets}
-use Rattle.ipx_sockets.specs.declared.source_filter.SourceFilter.{SourceFilter}
 use Rattle.ipx_host.specs.Barring.{HearAllowedOutOfMemory, HearsAllowed}
 use Rattle.ipx_host.specs.Paced.{GivesOnceTold}
 use Rattle.ipx_host.specs.declared.paced_host_core.PacedHostCore.{PacedHostCore}
@@ -35,27 +31,6 @@ hear_out_of_memory old port bytes now new = HearAllowedOutOfMemory old bytes now
 abbrev pub next_out_of_memory : PacedHostCore → ℕ → PacedHostCore → Type 0
 next_out_of_memory old now new = ⊥
 
--- the port of a host: its socket, with the access list and the peers
-abbrev pub HostPort : Type 0
-HostPort = OwnedRfc1234Ports (SourceFilter UdpSockets)
-
--- how asking it may leave it, and sending a packet
-abbrev pub ReceivesAtPort : HostPort → ℕ → ℕ → Option (List ℕ) → HostPort → Type 0
-ReceivesAtPort old port size answer new = (new.peers ≡ old.peers)
-    × ReceivesThroughFilter ReceivesPacket (λ d. d.sender) old.device port size answer new.device
-
-abbrev pub SendsAtPort : HostPort → Given → HostPort → Type 0
-SendsAtPort old packet new = (new.peers ≡ old.peers) × SendsEach (SendsThroughFilter SendsDatagram)
-    (copies_of (by_ip (peers_of old.peers.items)) packet) old.device new.device
-
--- it is marked: a datagram may wait there
-abbrev pub marked_port : HostPort → HostPort
-marked_port p = record p {
-  device = record p.device {
-    device = record p.device.device { marks = replicate (length p.device.device.marks) true };
-  };
-}
-
 -- what is around the core of a host: its clock and its port
 pub record Around (R : Type 0) : Type 0 where
   pub clock : SteadyClock R
@@ -64,12 +39,9 @@ pub record Around (R : Type 0) : Type 0 where
 abbrev pub around : {R : Type 0} → SteadyClock R → HostPort → Around R
 around clock port = record { clock = clock; port = port }
 
--- a turn there: the clock is read once. The port is marked and asked, and gives the answers of the turn. Then
--- it sends just the packets of the turn. If memory runs out, both are those before that
+-- a turn there: the clock is read once, and then the port is driven
 abbrev pub DrivesTurn : {R : Type 0} → Around R → Turn → Around R → Type 0
-DrivesTurn old t new = NeverGoesBack old.clock t.moment new.clock × (asked : HostPort)
-    × AsksEach ReceivesAtPort 1536 t.answers (marked_port old.port) asked
-    × SendsEach SendsAtPort t.packets asked new.port
+DrivesTurn old t new = NeverGoesBack old.clock t.moment new.clock × DrivesPort old.port t new.port
 
 -- the report of a whole turn: whether a datagram was read, and whether anything happened. Filtered datagrams
 -- are not part of the report

@@ -7,6 +7,7 @@ ghost use Rattle.ipx_carrier.specs.Turns.{peers_of};
 ghost use Rattle.ipx_sockets.specs.Moments.{AreLoggedIfDue};
 ghost use Rattle.ipx_config.specs.AllowedPeers.{named_in};
 ghost use Rattle.ipx_sockets.specs.PollEvents.{Watched};
+ghost use Rattle.ipx_sockets.specs.PortTurns.{marked_port};
 ghost use Rattle.ipx_sockets.specs.Senders.{udp_fds};
 ghost use Rattle.ipx_sockets.specs.SourceFilter.{drops_in};
 ghost use Rattle.ipx_sockets.specs.AccessLists.{access_by};
@@ -18,7 +19,7 @@ ghost use Rattle.ipx_host.specs.Access.{guarded_host};
 ghost use Rattle.ipx_host.specs.HostLines.{counts_of_host, host_counts};
 ghost use Rattle.ipx_sockets.specs.Polling.{WaitsOnce, watched_if};
 ghost use Rattle.ipx_host.specs.Sleeping.{IsSleep};
-ghost use Rattle.ipx_host.specs.Turning.{DrivesTurn, TakesHostTurn, TellsOf, around, marked_port, refused_after};
+ghost use Rattle.ipx_host.specs.Turning.{DrivesTurn, TakesHostTurn, TellsOf, around, refused_after};
 
 use crate::access::access_list_of;
 use crate::eviction::count_if;

@@ -1,7 +1,6 @@
 -- How a host waits after a turn, and which faults are no failed wait.
-use Rattle.std.proofs.Common.{◌≡◌, ◌<◌, ℕ, Bool, true, [], ◌∷◌, ◌++◌, Some, ◌⊎◌, inl, inr, refl, sym, subst, ◌∙◌}
-use Rattle.std.proofs.lemmas.List.{get_or-replicate, length-replicate}
-use Rattle.std.specs.Prelude.{◌↔◌, All, IsTrue, replicate}
+use Rattle.std.proofs.Common.{◌≡◌, ◌<◌, ℕ, Bool, [], ◌∷◌, ◌++◌, Some, ◌⊎◌, inl, inr, refl, sym, subst, ◌∙◌}
+use Rattle.std.specs.Prelude.{◌↔◌, IsTrue}
 use Rattle.ipx_carrier.specs.declared.report.Report.{Report}
 use Rattle.ipx_sockets.specs.PollEvents.{Waited}
 use Rattle.ipx_sockets.specs.Polling.{WaitsOnce}
@@ -9,10 +8,6 @@ use Rattle.ipx_sockets.specs.declared.poller.Poller.{Poller}
 use Rattle.ipx_query_cmd.specs.Pausing.{MayPause}
 use Rattle.ipx_query_cmd.specs.declared.fault.AskFault.{AskFault}
 use Rattle.ipx_query_cmd.specs.declared.fault.AskFault.TheVariants as Faults
-
--- all marks are set
-pub all_true : (n : ℕ) → All (λ (mark : Bool). mark ≡ true) (replicate n true)
-all_true n = λ k d less. get_or-replicate n k true d (subst (λ (long : ℕ). k < long) (length-replicate n true) less)
 
 -- a turn is busy by its own report, and by what was filtered
 pub busy_by : (more : Bool) (report its : Report) (a b x y : ℕ) → report ≡ its → a ≡ x → b ≡ y → IsTrue more ↔ ((0 < report.heard) ⊎ ((0 < report.sent) ⊎ (a < b)))

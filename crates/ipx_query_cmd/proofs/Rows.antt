@@ -9,16 +9,22 @@ use Rattle.ipx_carrier.specs.Device.{TellsMoments}
 use Rattle.ipx_carrier.specs.Turns.{Turn, Turns, moments_of}
 use Rattle.ipx_inspect.specs.ShowLine.{name_text}
 use Rattle.ipx_query.specs.AskQueries.{AskGives}
-use Rattle.ipx_query.specs.QueryView.{AskView}
+use Rattle.ipx_query.specs.QueryEnds.{is_ask_over}
+use Rattle.ipx_query.specs.QueryView.{AskView, IsNewAsk}
 use Rattle.ipx_query.specs.declared.queried_router.QueriedRouter.{QueriedRouter}
+use Rattle.ipx_query.specs.declared.question.TableQuery.{TableQuery}
 use Rattle.ipx_config.specs.Values.{is_peer}
+use Rattle.ipx_config.specs.declared.host.HostConfig.{HostConfig}
+use Rattle.ipx_sockets.specs.PortTurns.{HostPort}
 use Rattle.ipx_sockets.specs.Steady.{NeverGoesBack}
 use Rattle.ipx_sockets.specs.declared.clock.SteadyClock.{SteadyClock}
-use Rattle.ipx_query_cmd.specs.QueryRuns.{AsksOn, PassBetween, hears_answer}
+use Rattle.ipx_query_cmd.specs.QueryPorts.{IsOpened}
+use Rattle.ipx_query_cmd.specs.QueryRuns.{AsksOn, HasAsked, PassBetween, hears_answer}
 use Rattle.ipx_table_dump.specs.TableRead.{ServiceSpelled}
 use Rattle.ipx_query_cmd.specs.KnownLines.{known_name_width}
 use Rattle.ipx_query_cmd.specs.OperatorLines.{AdvertisedService, answering_nodes, name_width}
-use Rattle.ipx_query_cmd.specs.QueryTargets.{new_ips}
+use Rattle.ipx_query_cmd.specs.QueryTargets.{asked_nodes, guarded_querier, new_ips, querier_address}
+use Rattle.ipx_query_cmd.proofs.Driven.{drives_after}
 
 -- one more text after those of the elements before
 pub texts_more : {X : Type 0} (f : X → List ℕ) (xs : List X) (i : ℕ) (d : X) (old part : List ℕ) → i < length xs → old ≡ flat_map f (take i xs) → part ≡ f (get_or xs i d)
@@ -138,12 +144,29 @@ turns_after : (ts us : List Turn) (a b c : AskView) → Turns hears_answer AskGi
 turns_after [] us a b c h k = subst (λ a. Turns hears_answer AskGives 1 us a c) h k
 turns_after (t ∷ ts) us a b c h k = (h.0, h.1, turns_after ts us h.0 b c h.2 k)
 
-pub turns_on : (ts us : List Turn) (from mid to : ℕ) (a b c : AskView) → AsksOn ts from mid a b → AsksOn us mid to b c → AsksOn (ts ++ us) from to a c
-turns_on ts us from mid to a b c h k =
-    (turns_after ts us a b c h.0 k.0, subst (λ (ms : List ℕ). PassBetween from ms to) (sym (map-append (λ (t : Turn). t.moment) ts us)) (between_on from (moments_of ts) (moments_of us) mid to h.1 k.1))
+pub turns_on : (ts us : List Turn) (from mid to : ℕ) (x y z : HostPort) (a b c : AskView) → AsksOn ts from mid x y a b → AsksOn us mid to y z b c → AsksOn (ts ++ us) from to x z a c
+turns_on ts us from mid to x y z a b c h k = (
+  turns_after ts us a b c h.0 k.0,
+  subst (λ (ms : List ℕ). PassBetween from ms to) (sym (map-append (λ (t : Turn). t.moment) ts us)) (between_on from (moments_of ts) (moments_of us) mid to h.1 k.1),
+  drives_after ts us x y z h.2 k.2,
+)
 
-pub turns_later : (ts : List Turn) (from mid to : ℕ) (a b : AskView) → AsksOn ts from mid a b → mid ≤ to → AsksOn ts from to a b
-turns_later ts from mid to a b h k = (h.0, between_later from (moments_of ts) mid to h.1 k)
+pub turns_later : (ts : List Turn) (from mid to : ℕ) (x y : HostPort) (a b : AskView) → AsksOn ts from mid x y a b → mid ≤ to → AsksOn ts from to x y a b
+turns_later ts from mid to x y a b h k = (h.0, between_later from (moments_of ts) mid to h.1 k, h.2)
+
+-- what a host has done that was opened, and then asked until it was over
+pub has_asked : (file : HostConfig) (question : TableQuery) (ts : List Turn) (x y : HostPort) (old new : AskView) (from last now : ℕ) → IsNewAsk (querier_address file) question (asked_nodes file) old
+    → IsOpened file (guarded_querier file) x → from ≡ 0 → AsksOn ts from last x y old new → now ≡ last → is_ask_over new now ≡ true → HasAsked file question new now
+has_asked file question ts x y old new from last now begins opens none asks is over = record {
+  fresh = old;
+  port = x;
+  port_after = y;
+  turns = ts;
+  begins = begins;
+  opens = opens;
+  asks = subst (λ (n : ℕ). AsksOn ts 0 n x y old new) (sym is) (subst (λ (n : ℕ). AsksOn ts n last x y old new) none asks);
+  over = over;
+}
 
 -- a command that succeeds ends with the status of the host that asked
 pub status_of_host : (result status : ℕ) → (result ≡ 1) ⊎ (result ≡ status) → result ≡ 0 → status ≡ 0

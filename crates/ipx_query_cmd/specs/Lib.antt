@@ -4,6 +4,7 @@ pub mod OperatorLines
 pub mod PingLines
 pub mod PingRuns
 pub mod QueryTargets
+pub mod QueryPorts
 pub mod PingTargets
 pub mod KnownLines
 pub mod KnownListed

@@ -10,9 +10,9 @@ use Rattle.ipx_query_cmd.specs.declared.query_socket.QuerySocket.{QuerySocket}
 
 -- a turn over its socket received or sent a datagram, or the socket filtered one meanwhile
 abbrev pub IsBusy : QuerySocket → QuerySocket → Turn → Type 0
-IsBusy old new turn = (0 < (report_of (by_ip (peers_of old.peers.items)) (turn ∷ [])).heard)
-    ⊎ ((0 < (report_of (by_ip (peers_of old.peers.items)) (turn ∷ [])).sent)
-    ⊎ (drops_in old.device.kept < drops_in new.device.kept))
+IsBusy old new turn = (0 < (report_of (by_ip (peers_of old.ports.peers.items)) (turn ∷ [])).heard)
+    ⊎ ((0 < (report_of (by_ip (peers_of old.ports.peers.items)) (turn ∷ [])).sent)
+    ⊎ (drops_in old.ports.device.kept < drops_in new.ports.device.kept))
 
 -- it does not wait, or it waits once, at most 20 ms
 abbrev pub MayPause : Poller → Poller → Type 0

@@ -4,6 +4,7 @@ ghost use Rattle.std.specs.Prelude.{◌≡◌, ◌≢◌, ◌↔◌, ◌∷◌, 
 ghost use Rattle.std.specs.Io.KnownBytes.{Appends};
 ghost use Rattle.ipx_carrier.specs.Traces.{v4_at};
 ghost use Rattle.ipx_carrier.specs.Mapping.{node_at};
+ghost use Rattle.ipx_carrier.specs.Turns.{peers_of};
 ghost use Rattle.ipx_sockets.specs.AccessLists.{access_by};
 ghost use Rattle.ipx_sockets.specs.PollEvents.{Watched};
 ghost use Rattle.ipx_sockets.specs.Polling.{FailedToWait, FailsToWait, WaitsWell};
@@ -101,17 +102,19 @@ impl<'a, R: Net + Clock> PingingHost<'a, R> {
         ensures to { IfOk result (λ h. h.to ≡ to) }
         ensures times { IfOk result (λ h. h.times.items ≡ []) }
         ensures udp_port { IfOk result (λ h.
-            map (λ s. s.udp_port) h.own_socket.device.device.sockets.items ≡ file.now.udp_port ∷ []) }
-        ensures at { IfOk result (λ h. map (λ s. s.socket.at) h.own_socket.device.device.sockets.items
+            map (λ s. s.udp_port) h.own_socket.ports.device.device.sockets.items ≡ file.now.udp_port ∷ []) }
+        ensures at { IfOk result (λ h. map (λ s. s.socket.at) h.own_socket.ports.device.device.sockets.items
             ≡ v4_at file.now.address file.now.udp_port ∷ []) }
         ensures clock { IfOk result (λ h. h.clock.last ≡ 0) }
+        // A broadcast goes to nobody.
+        ensures peers { IfOk result (λ h. peers_of h.own_socket.ports.peers.items ≡ [] ∷ []) }
         // It sends only to the first node on the way, and accepts only those that may bring an
         // answer.
         ensures access_list { IfOk result (λ h.
-            map access_by h.own_socket.device.access_lists.items ≡ guarded_pinger file.now to ∷ []) }
+            map access_by h.own_socket.ports.device.access_lists.items ≡ guarded_pinger file.now to ∷ []) }
         // It watches its one socket, and nothing else, and has not waited.
         ensures watches { IfOk result (λ h. h.poller.trace.items
-            ≡ map Watched (udp_fds h.own_socket.device.device.sockets.items)) }
+            ≡ map Watched (udp_fds h.own_socket.ports.device.device.sockets.items)) }
     {
         let clock = SteadyClock::new(rt)?;
         let access_list = access_list_of(alloc, file, to)?;
@@ -133,7 +136,8 @@ impl<'a, R: Net + Clock> PingingHost<'a, R> {
     /// turn.
     fn turn(&mut self, alloc: Global) -> Result<(bool, Option<PingEvent>), AskFault>
         ensures pings { IfOk result (λ r. (turn : PingTurn) × (r.1 ≡ turn.news)
-            × IsPingTurn turn self.old.clock.last self.new.clock.last self.old.core self.new.core
+            × IsPingTurn turn self.old.clock.last self.new.clock.last
+            self.old.own_socket.ports self.new.own_socket.ports self.old.core self.new.core
             × (IsTrue r.0 ↔ IsBusy self.old.own_socket self.new.own_socket turn.turn)) }
         ensures to { self.new.to ≡ self.old.to }
         ensures times { self.new.times ≡ self.old.times }
@@ -156,7 +160,8 @@ impl<'a, R: Net + Clock> PingingHost<'a, R> {
     fn step<W: Write>(&mut self, alloc: Global, writer: &mut W) -> Result<Option<u64>, AskFault>
         // After a busy turn it does not wait, and after another only if the ping is not over.
         ensures pings { IfOk result (λ moment. (turn : PingTurn)
-            × IsPingTurn turn self.old.clock.last self.new.clock.last self.old.core self.new.core
+            × IsPingTurn turn self.old.clock.last self.new.clock.last
+            self.old.own_socket.ports self.new.own_socket.ports self.old.core self.new.core
             × (self.new.times.items ≡ self.old.times.items ++ news_times turn.news)
             × Appends (W.contents writer.old) (W.contents writer.new) (news_text self.old.to turn.news)
             × PausesAfter (IsBusy self.old.own_socket self.new.own_socket turn.turn) moment
@@ -190,7 +195,8 @@ impl<'a, R: Net + Clock> PingingHost<'a, R> {
     /// time in milliseconds. It fails if the clock does not move.
     pub fn ping<W: Write>(&mut self, alloc: Global, writer: &mut W) -> Result<u64, AskFault>
         ensures pings { OnOk result ((turns : List PingTurn)
-            × PingsOn turns self.old.clock.last self.new.clock.last self.old.core self.new.core
+            × PingsOn turns self.old.clock.last self.new.clock.last
+            self.old.own_socket.ports self.new.own_socket.ports self.old.core self.new.core
             × (self.new.times.items ≡ self.old.times.items ++ times_printed turns)
             × Appends (W.contents writer.old) (W.contents writer.new) (lines_printed self.old.to turns)) }
         ensures over { IfOk result (λ now.

@@ -2,7 +2,7 @@
 
 ghost use Rattle.std.specs.Prelude.{◌≡◌, ◌≢◌, ◌↔◌, ◌∷◌, [], ℕ, Err, IfErr, IfOk, IfSome, IsTrue, List, OnOk, map, true};
 ghost use Rattle.ipx_carrier.specs.Traces.{v4_at};
-ghost use Rattle.ipx_carrier.specs.Turns.{Turn};
+ghost use Rattle.ipx_carrier.specs.Turns.{Turn, peers_of};
 ghost use Rattle.ipx_sockets.specs.AccessLists.{access_by};
 ghost use Rattle.ipx_sockets.specs.PollEvents.{Watched};
 ghost use Rattle.ipx_sockets.specs.Polling.{FailedToWait, FailsToWait, WaitsWell};
@@ -87,16 +87,18 @@ impl<'a, R: Net + Clock> QueryHost<'a, R> {
         ensures fresh { IfOk result (λ h.
             IsNewAsk (querier_address file.now) question (asked_nodes file.now) h.core) }
         ensures udp_port { IfOk result (λ h.
-            map (λ s. s.udp_port) h.own_socket.device.device.sockets.items ≡ file.now.udp_port ∷ []) }
-        ensures at { IfOk result (λ h. map (λ s. s.socket.at) h.own_socket.device.device.sockets.items
+            map (λ s. s.udp_port) h.own_socket.ports.device.device.sockets.items ≡ file.now.udp_port ∷ []) }
+        ensures at { IfOk result (λ h. map (λ s. s.socket.at) h.own_socket.ports.device.device.sockets.items
             ≡ v4_at file.now.address file.now.udp_port ∷ []) }
         ensures clock { IfOk result (λ h. h.clock.last ≡ 0) }
+        // A broadcast goes to nobody.
+        ensures peers { IfOk result (λ h. peers_of h.own_socket.ports.peers.items ≡ [] ∷ []) }
         // It sends only to those that it asks, and accepts only those.
         ensures access_list { IfOk result (λ h.
-            map access_by h.own_socket.device.access_lists.items ≡ guarded_querier file.now ∷ []) }
+            map access_by h.own_socket.ports.device.access_lists.items ≡ guarded_querier file.now ∷ []) }
         // It watches its one socket, and nothing else, and has not waited.
         ensures watches { IfOk result (λ h. h.poller.trace.items
-            ≡ map Watched (udp_fds h.own_socket.device.device.sockets.items)) }
+            ≡ map Watched (udp_fds h.own_socket.ports.device.device.sockets.items)) }
     {
         let clock = SteadyClock::new(rt)?;
         let ips = asked_ips(alloc, file)?;
@@ -117,7 +119,8 @@ impl<'a, R: Net + Clock> QueryHost<'a, R> {
     /// Takes one turn. It returns whether there may be more to do at once.
     fn turn(&mut self, alloc: Global) -> Result<bool, AskFault>
         ensures asks { IfOk result (λ more. (turn : Turn)
-            × AsksOn (turn ∷ []) self.old.clock.last self.new.clock.last self.old.core self.new.core
+            × AsksOn (turn ∷ []) self.old.clock.last self.new.clock.last
+            self.old.own_socket.ports self.new.own_socket.ports self.old.core self.new.core
             × (IsTrue more ↔ IsBusy self.old.own_socket self.new.own_socket turn)) }
         ensures poller { self.new.poller ≡ self.old.poller }
         ensures fault { IfErr result (λ f. f ≡ AskFault.OutOfMemory) }
@@ -134,7 +137,8 @@ impl<'a, R: Net + Clock> QueryHost<'a, R> {
     fn step(&mut self, alloc: Global) -> Result<Option<u64>, AskFault>
         // After a busy turn it does not wait, and after another only if the query is not over.
         ensures asks { IfOk result (λ moment. (turn : Turn)
-            × AsksOn (turn ∷ []) self.old.clock.last self.new.clock.last self.old.core self.new.core
+            × AsksOn (turn ∷ []) self.old.clock.last self.new.clock.last
+            self.old.own_socket.ports self.new.own_socket.ports self.old.core self.new.core
             × PausesAfter (IsBusy self.old.own_socket self.new.own_socket turn) moment
             self.old.poller self.new.poller) }
         ensures over { IfOk result (λ moment.
@@ -164,7 +168,8 @@ impl<'a, R: Net + Clock> QueryHost<'a, R> {
     /// clock does not move.
     pub fn ask(&mut self, alloc: Global) -> Result<u64, AskFault>
         ensures asks { OnOk result ((turns : List Turn)
-            × AsksOn turns self.old.clock.last self.new.clock.last self.old.core self.new.core) }
+            × AsksOn turns self.old.clock.last self.new.clock.last
+            self.old.own_socket.ports self.new.own_socket.ports self.old.core self.new.core) }
         ensures over { IfOk result (λ now.
             (now ≡ self.new.clock.last) × (is_ask_over self.new.core now ≡ true)) }
         // It fails because it can't wait exactly if its last wait failed. No other wait fails, and

@@ -6,4 +6,5 @@ pub mod PortFilterDrops
 pub mod Moments
 pub mod Senders
 pub mod SocketCalls
+pub mod PortTurns
 pub mod Polling

@@ -2,7 +2,8 @@ use Rattle.std.proofs.Common.{◌∙◌, ap, arith, length}
 use Rattle.ipx_carrier.specs.Driving.{CanBeginBy}
 use Rattle.ipx_carrier.specs.ReadySet.{is_port_marked}
 use Rattle.ipx_host.specs.Sessions.{raised_if}
-use Rattle.ipx_host.specs.Turning.{HostPort, around}
+use Rattle.ipx_sockets.specs.PortTurns.{HostPort}
+use Rattle.ipx_host.specs.Turning.{around}
 use Rattle.ipx_host.proofs.Turning.{fails_to_receive_at, fails_to_send_at, peers_stay, took}
 use Rattle.ipx_host.proofs.running_host.RunningHost.turn.Goals as goal
 

@@ -12,7 +12,7 @@ pub loop-init : goal.loop-init
 loop-init g c = record {
   to = refl;
   waits = (zero, refl);
-  pings = ([], none_so_far c.args.self.now.to c.args.self.now.clock.last c.args.self.now.core c.args.self.now.times.items (g.W.Write.contents c.args.writer.now));
+  pings = ([], none_so_far c.args.self.now.to c.args.self.now.clock.last c.args.self.now.own_socket.ports c.args.self.now.core c.args.self.now.times.items (g.W.Write.contents c.args.writer.now));
 }
 
 pub returns-in-Some-clause-pings : goal.returns-in-Some-clause-pings
@@ -24,7 +24,7 @@ returns-in-Some-clause-pings g c =
     let u = g.W.Write.contents c.step.new.writer in
     let told = subst (λ (to : Address). Appends v u (news_text to more.0.news)) c.loop.invariant.to more.3 in
     let all = one_more_turn c.args.self.now.to was.0 more.0 c.args.self.now.clock.last c.loop.self.clock.last c.step.new.self.clock.last
-    c.args.self.now.core c.loop.self.core c.step.new.self.core c.args.self.now.times.items c.loop.self.times.items c.step.new.self.times.items
+    c.args.self.now.own_socket.ports c.loop.self.own_socket.ports c.step.new.self.own_socket.ports c.args.self.now.core c.loop.self.core c.step.new.self.core c.args.self.now.times.items c.loop.self.times.items c.step.new.self.times.items
     w v u was.1 more.1 more.2 told in
     (was.0 ++ more.0 ∷ [], all.pings, all.kept, all.told)
 
@@ -37,7 +37,7 @@ loop-preserved g c =
     let u = g.W.Write.contents c.step.new.writer in
     let told = subst (λ (to : Address). Appends v u (news_text to more.0.news)) c.loop.invariant.to more.3 in
     let all = one_more_turn c.args.self.now.to was.0 more.0 c.args.self.now.clock.last c.loop.self.clock.last c.step.new.self.clock.last
-    c.args.self.now.core c.loop.self.core c.step.new.self.core c.args.self.now.times.items c.loop.self.times.items c.step.new.self.times.items
+    c.args.self.now.own_socket.ports c.loop.self.own_socket.ports c.step.new.self.own_socket.ports c.args.self.now.core c.loop.self.core c.step.new.self.core c.args.self.now.times.items c.loop.self.times.items c.step.new.self.times.items
     w v u was.1 more.1 more.2 told in
     let i = c.loop.invariant.waits in
     let now = c.loop.self.poller in

@@ -9,6 +9,6 @@ abbrev pub invariant-loop : goal.invariant-loop
 invariant-loop g l = record {
   to : l.self.to ≡ l.fn.self.to;
   waits : (count : ℕ) × WaitsWell count l.fn.self.poller l.self.poller;
-  pings : (turns : List PingTurn) × PingsSoFar l.fn.self.to turns l.fn.self.clock.last l.self.clock.last l.fn.self.core l.self.core
-      l.fn.self.times.items l.self.times.items (g.W.Write.contents l.fn.writer) (g.W.Write.contents l.writer);
+  pings : (turns : List PingTurn) × PingsSoFar l.fn.self.to turns l.fn.self.clock.last l.self.clock.last l.fn.self.own_socket.ports l.self.own_socket.ports
+      l.fn.self.core l.self.core l.fn.self.times.items l.self.times.items (g.W.Write.contents l.fn.writer) (g.W.Write.contents l.writer);
 }

@@ -13,7 +13,7 @@ returns-then-is_done-clause-pings g c =
     let told = c.now-now.ensures.told in
     let w = g.W.Write.contents c.args.writer.now in
     let v = g.W.Write.contents c.write_news.new.writer in
-    let all = turn_told a.0 c.in_ok-active.news old.clock.last turned.clock.last c.now-now.new.self.last old.core turned.core old.times.items turned.times.items c.keep_time.new.times.items old.to turned.to w v
+    let all = turn_told a.0 c.in_ok-active.news old.clock.last turned.clock.last c.now-now.new.self.last old.own_socket.ports turned.own_socket.ports old.core turned.core old.times.items turned.times.items c.keep_time.new.times.items old.to turned.to w v
     a.1 a.2 (omega (arith, told.0, told.1)) (ap (λ t. t.items) c.turn.ensures.times) c.in_ok-keep_time.ensures c.turn.ensures.to c.in_ok-write_news.ensures.writes in
     (a.0, all.0, all.1, all.2, c.turn.ensures.poller)
 
@@ -25,7 +25,7 @@ returns-then-active-clause-pings g c =
     let told = c.now-now.ensures.told in
     let w = g.W.Write.contents c.args.writer.now in
     let v = g.W.Write.contents c.write_news.new.writer in
-    let all = turn_told a.0 c.in_ok-active.news old.clock.last turned.clock.last c.now-now.new.self.last old.core turned.core old.times.items turned.times.items c.keep_time.new.times.items old.to turned.to w v
+    let all = turn_told a.0 c.in_ok-active.news old.clock.last turned.clock.last c.now-now.new.self.last old.own_socket.ports turned.own_socket.ports old.core turned.core old.times.items turned.times.items c.keep_time.new.times.items old.to turned.to w v
     a.1 a.2 (omega (arith, told.0, told.1)) (ap (λ t. t.items) c.turn.ensures.times) c.in_ok-keep_time.ensures c.turn.ensures.to c.in_ok-write_news.ensures.writes in
     (a.0, all.0, all.1, all.2, inl (a.3.0 c.if-active.true, c.turn.ensures.poller))
 
@@ -37,7 +37,7 @@ returns-in-Ok-clause-pings g c =
     let told = c.now-now.ensures.told in
     let w = g.W.Write.contents c.args.writer.now in
     let v = g.W.Write.contents c.write_news.new.writer in
-    let all = turn_told a.0 c.in_ok-active.news old.clock.last turned.clock.last c.now-now.new.self.last old.core turned.core old.times.items turned.times.items c.keep_time.new.times.items old.to turned.to w v
+    let all = turn_told a.0 c.in_ok-active.news old.clock.last turned.clock.last c.now-now.new.self.last old.own_socket.ports turned.own_socket.ports old.core turned.core old.times.items turned.times.items c.keep_time.new.times.items old.to turned.to w v
     a.1 a.2 (omega (arith, told.0, told.1)) (ap (λ t. t.items) c.turn.ensures.times) c.in_ok-keep_time.ensures c.turn.ensures.to c.in_ok-write_news.ensures.writes in
     (a.0, all.0, all.1, all.2, inr (λ busy. both _ (a.3.1 busy) c.if-active.false, paused c.args.self.now.poller c.turn.new.self.poller c.wait.new.self c.turn.ensures.poller c.wait.ensures.trace c.wait.ensures.asked))
 

@@ -9,12 +9,13 @@ returns-then-sent-clause-pings g c =
       refl,
       record {
         turns = r.1;
+        drives = r.3;
         after = r.2.0;
         before = omega (arith, r.2.1);
         tenths = c.tenths.result;
         news = c.news_of-news.ensures;
       },
-      r.3,
+      r.4,
     )
 
 pub returns-else-sent-clause-pings : goal.returns-else-sent-clause-pings
@@ -24,12 +25,13 @@ returns-else-sent-clause-pings g c =
       refl,
       record {
         turns = r.1;
+        drives = r.3;
         after = r.2.0;
         before = omega (arith, r.2.1);
         tenths = c.tenths.result;
         news = c.news_of-news.ensures;
       },
-      r.3,
+      r.4,
     )
 
 pub returns-in_err-active-clause-fault : goal.returns-in_err-active-clause-fault

@@ -6,13 +6,13 @@ use Rattle.ipx_query_cmd.proofs.Rows.{turns_on}
 use Rattle.ipx_query_cmd.proofs.query_host.QueryHost.ask.Goals as goal
 
 pub loop-init : goal.loop-init
-loop-init g c = record { asks = ([], (refl, omega arith)); waits = (zero, refl) }
+loop-init g c = record { asks = ([], (refl, omega arith, refl)); waits = (zero, refl) }
 
 pub returns-in-Some-clause-asks : goal.returns-in-Some-clause-asks
 returns-in-Some-clause-asks g c =
     let was = c.loop.invariant.asks in
     let more = c.in_ok-now.ensures.asks in
-    (was.0 ++ more.0 ∷ [], turns_on was.0 (more.0 ∷ []) c.args.self.now.clock.last c.loop.self.clock.last c.step.new.self.clock.last c.args.self.now.core c.loop.self.core c.step.new.self.core was.1 more.1)
+    (was.0 ++ more.0 ∷ [], turns_on was.0 (more.0 ∷ []) c.args.self.now.clock.last c.loop.self.clock.last c.step.new.self.clock.last c.args.self.now.own_socket.ports c.loop.self.own_socket.ports c.step.new.self.own_socket.ports c.args.self.now.core c.loop.self.core c.step.new.self.core was.1 more.1)
 
 pub loop-preserved : goal.loop-preserved
 loop-preserved g c =
@@ -22,7 +22,7 @@ loop-preserved g c =
     let now = c.loop.self.poller in
     let new = c.step.new.self.poller in
     record {
-      asks = (was.0 ++ more.0 ∷ [], turns_on was.0 (more.0 ∷ []) c.args.self.now.clock.last c.loop.self.clock.last c.step.new.self.clock.last c.args.self.now.core c.loop.self.core c.step.new.self.core was.1 more.1);
+      asks = (was.0 ++ more.0 ∷ [], turns_on was.0 (more.0 ∷ []) c.args.self.now.clock.last c.loop.self.clock.last c.step.new.self.clock.last c.args.self.now.own_socket.ports c.loop.self.own_socket.ports c.step.new.self.own_socket.ports c.args.self.now.core c.loop.self.core c.step.new.self.core was.1 more.1);
       waits = waits_on i.waits.0 c.args.self.now.poller now new i.waits.1 (as_wait now new c.step.ensures.waits) (λ fails. not_err _ _ (c.in_ok-now.ensures.unwaited.1 fails));
     }
 

@@ -11,7 +11,7 @@ returns-then-is_done-clause-asks g c =
     let turned = c.turn.new.self in
     let a = c.in_ok-active.ensures.asks in
     let told = c.now-now.ensures.told in
-    (a.0, turns_later (a.0 ∷ []) old.clock.last turned.clock.last c.now-now.new.self.last old.core turned.core a.1 (omega (arith, told.0, told.1)), c.turn.ensures.poller)
+    (a.0, turns_later (a.0 ∷ []) old.clock.last turned.clock.last c.now-now.new.self.last old.own_socket.ports turned.own_socket.ports old.core turned.core a.1 (omega (arith, told.0, told.1)), c.turn.ensures.poller)
 
 pub returns-then-active-clause-asks : goal.returns-then-active-clause-asks
 returns-then-active-clause-asks g c =
@@ -19,7 +19,7 @@ returns-then-active-clause-asks g c =
     let turned = c.turn.new.self in
     let a = c.in_ok-active.ensures.asks in
     let told = c.now-now.ensures.told in
-    (a.0, turns_later (a.0 ∷ []) old.clock.last turned.clock.last c.now-now.new.self.last old.core turned.core a.1 (omega (arith, told.0, told.1)), inl (a.2.0 c.if-active.true, c.turn.ensures.poller))
+    (a.0, turns_later (a.0 ∷ []) old.clock.last turned.clock.last c.now-now.new.self.last old.own_socket.ports turned.own_socket.ports old.core turned.core a.1 (omega (arith, told.0, told.1)), inl (a.2.0 c.if-active.true, c.turn.ensures.poller))
 
 pub returns-in-Ok-clause-asks : goal.returns-in-Ok-clause-asks
 returns-in-Ok-clause-asks g c =
@@ -28,7 +28,7 @@ returns-in-Ok-clause-asks g c =
     let a = c.in_ok-active.ensures.asks in
     let told = c.now-now.ensures.told in (
       a.0,
-      turns_later (a.0 ∷ []) old.clock.last turned.clock.last c.now-now.new.self.last old.core turned.core a.1 (omega (arith, told.0, told.1)),
+      turns_later (a.0 ∷ []) old.clock.last turned.clock.last c.now-now.new.self.last old.own_socket.ports turned.own_socket.ports old.core turned.core a.1 (omega (arith, told.0, told.1)),
       inr (λ busy. both _ (a.2.1 busy) c.if-active.false, paused old.poller turned.poller c.wait.new.self c.turn.ensures.poller c.wait.ensures.trace c.wait.ensures.asked),
     )
 
