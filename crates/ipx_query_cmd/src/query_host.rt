@@ -6,7 +6,7 @@ ghost use Rattle.ipx_carrier.specs.Turns.{Turn, peers_of};
 ghost use Rattle.ipx_sockets.specs.AccessLists.{access_by};
 ghost use Rattle.ipx_sockets.specs.PollEvents.{Watched};
 ghost use Rattle.ipx_sockets.specs.Polling.{FailedToWait, FailsToWait, WaitsWell};
-ghost use Rattle.ipx_sockets.specs.Senders.{udp_fds};
+ghost use Rattle.ipx_sockets.specs.Senders.{udp_events, udp_fds};
 ghost use Rattle.ipx_query.specs.QueryEnds.{is_ask_over};
 ghost use Rattle.ipx_query.specs.QueryView.{IsNewAsk};
 ghost use Rattle.ipx_query_cmd.specs.QueryRuns.{AsksOn};
@@ -90,6 +90,10 @@ impl<'a, R: Net + Clock> QueryHost<'a, R> {
             map (λ s. s.udp_port) h.own_socket.ports.device.device.sockets.items ≡ file.now.udp_port ∷ []) }
         ensures at { IfOk result (λ h. map (λ s. s.socket.at) h.own_socket.ports.device.device.sockets.items
             ≡ v4_at file.now.address file.now.udp_port ∷ []) }
+        // The socket was asked nothing yet, and is marked.
+        ensures unasked { IfOk result (λ h.
+            udp_events h.own_socket.ports.device.device.sockets.items ≡ [] ∷ []) }
+        ensures marks { IfOk result (λ h. h.own_socket.ports.device.device.marks ≡ true ∷ []) }
         ensures clock { IfOk result (λ h. h.clock.last ≡ 0) }
         // A broadcast goes to nobody.
         ensures peers { IfOk result (λ h. peers_of h.own_socket.ports.peers.items ≡ [] ∷ []) }

@@ -1,12 +1,12 @@
 //! The socket of a host that asks, with its access list.
 
-ghost use Rattle.std.specs.Prelude.{◌≡◌, ◌<◌, ◌⊎◌, ◌↔◌, ◌∷◌, [], IfErr, IfOk, IsTrue, length, map};
+ghost use Rattle.std.specs.Prelude.{◌≡◌, ◌<◌, ◌⊎◌, ◌↔◌, ◌∷◌, [], IfErr, IfOk, IsTrue, length, map, true};
 ghost use Rattle.ipx_carrier.specs.Traces.{v4_at};
 ghost use Rattle.ipx_carrier.specs.Turns.{IsTurn, Turn, peers_of};
 ghost use Rattle.ipx_sockets.specs.AccessLists.{access_by};
 ghost use Rattle.ipx_sockets.specs.PollEvents.{Watched};
 ghost use Rattle.ipx_sockets.specs.PortTurns.{DrivesPort};
-ghost use Rattle.ipx_sockets.specs.Senders.{udp_fds};
+ghost use Rattle.ipx_sockets.specs.Senders.{udp_events, udp_fds};
 
 use crate::fault::AskFault;
 use ipx_carrier::{Clock, Core, CountsFiltered, OwnedRfc1234Ports, Report, run_once_over_ports};
@@ -66,6 +66,10 @@ impl QuerySocket {
             map (λ s. s.udp_port) r.0.ports.device.device.sockets.items ≡ file.now.udp_port ∷ []) }
         ensures at { IfOk result (λ r. map (λ s. s.socket.at) r.0.ports.device.device.sockets.items
             ≡ v4_at file.now.address file.now.udp_port ∷ []) }
+        // The socket was asked nothing yet, and is marked.
+        ensures unasked { IfOk result (λ r.
+            udp_events r.0.ports.device.device.sockets.items ≡ [] ∷ []) }
+        ensures marks { IfOk result (λ r. r.0.ports.device.device.marks ≡ true ∷ []) }
         ensures access_list { IfOk result (λ r.
             map access_by r.0.ports.device.access_lists.items ≡ access_by access_list ∷ []) }
         // The poller watches its socket, and nothing else, and has not waited.

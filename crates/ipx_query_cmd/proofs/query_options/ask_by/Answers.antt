@@ -9,4 +9,4 @@ returns g c =
     let asks = c.in_ok-over.ensures.asks in
     let over = c.in_ok-over.ensures.over in
     has_asked c.args.file.now c.args.question asks.0 host.own_socket.ports left.own_socket.ports host.core left.core host.clock.last left.clock.last c.in_ok-over.over opened.fresh
-    (record { udp_port = opened.udp_port; at = opened.at; access_list = opened.access_list; peers = opened.peers }) opened.clock asks.1 over.0 over.1
+    (record { udp_port = opened.udp_port; at = opened.at; unasked = opened.unasked; marks = opened.marks; access_list = opened.access_list; peers = opened.peers }) opened.clock asks.1 over.0 over.1
