@@ -1,4 +1,5 @@
 pub mod Filling
 pub mod Held
 pub mod Long
+pub mod PeersStay
 pub mod Telling

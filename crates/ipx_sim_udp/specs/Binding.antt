@@ -25,7 +25,7 @@ pub record IsHostOf (spots : List ScriptTarget) (number : ℕ) (h : Host) (r : R
   pub listens : IfSome h.listen (λ l. buffers_at r.core.endpoint l.0 ≡ Some l.1)
   pub alone : (s : Socket) → IfSome h.listen (λ l. s.0 ≢ l.0.0)
       → buffers_at r.core.endpoint s ≡ None
-  pub socket : length r.device.sockets.items ≡ 1
-  pub peers : (peers : List (List ℕ)) × (peers_of r.peers.items ≡ peers ∷ [])
+  pub socket : length r.ports.device.sockets.items ≡ 1
+  pub peers : (peers : List (List ℕ)) × (peers_of r.ports.peers.items ≡ peers ∷ [])
       × ArePeersAt spots (Places.Host number) h.network peers
   pub clock : IsAtStart r.clock

@@ -1,11 +1,12 @@
 //! A host or a router that runs over sockets.
 
-ghost use Rattle.std.specs.Prelude.{◌≡◌, IfOk, OnOk, Err, length};
-ghost use Rattle.ipx_carrier.specs.RunFaultNumbers.{failures_after};
+ghost use Rattle.std.specs.Prelude.{◌≡◌, OnOk, Err, length};
 ghost use Rattle.ipx_carrier.specs.Turns.{peers_of};
 ghost use Rattle.ipx_sim_udp.specs.RunnerTurns.{CanTurn, TakesRunnerTurn};
 
-use ipx_carrier::{Core, Datagrams, RunFault, SteppedClock, UdpDatagrams, turn};
+use ipx_carrier::{
+    Core, Datagrams, OwnedRfc1234Ports, RunFault, SteppedClock, UdpDatagrams, run_once_over_ports,
+};
 use std::alloc::Global;
 
 /// By how many milliseconds a clock advances each turn.
@@ -15,8 +16,7 @@ pub const STEP: u64 = 10;
 #[derive(Drop)]
 pub struct Runner<C: Core + Drop> {
     pub core: C,
-    device: UdpDatagrams,
-    peers: Vec<Vec<[u8; 4]>>,
+    ports: OwnedRfc1234Ports<UdpDatagrams>,
     clock: SteppedClock,
 }
 
@@ -24,14 +24,13 @@ impl<C: Core + Drop> Runner<C> {
     /// A runner whose clock begins at 0.
     pub fn new(core: C, device: UdpDatagrams, peers: Vec<Vec<[u8; 4]>>) -> Runner<C>
         ensures core { result.core ≡ core }
-        ensures device { result.device ≡ device }
-        ensures peers { peers_of result.peers.items ≡ peers_of peers.items }
+        ensures device { result.ports.device ≡ device }
+        ensures peers { peers_of result.ports.peers.items ≡ peers_of peers.items }
         ensures clock { (result.clock.moment ≡ 0) × (result.clock.step ≡ 10) }
     {
         Runner {
             core,
-            device,
-            peers,
+            ports: OwnedRfc1234Ports::new(device, peers),
             clock: SteppedClock::new(0, STEP),
         }
     }
@@ -41,35 +40,30 @@ impl<C: Core + Drop> Runner<C> {
     /// fails.
     pub fn turn(&mut self, alloc: Global) -> Result<u128, RunFault>
         ensures turn { CanTurn (C.port_count self.old.core)
-            (length self.old.device.sockets.items) (length self.old.peers.items)
-            self.old.device.failures
+            (length self.old.ports.device.sockets.items) (length self.old.ports.peers.items)
+            self.old.ports.device.failures
             → TakesRunnerTurn C.hears C.hear_out_of_memory C.gives C.next_out_of_memory (C.port_count self.old.core)
-            (peers_of self.old.peers.items) self.old.clock self.new.clock
+            self.old.ports self.new.ports self.old.clock self.new.clock
             self.old.core self.new.core result }
         ensures refused { (CanTurn (C.port_count self.old.core)
-            (length self.old.device.sockets.items) (length self.old.peers.items)
-            self.old.device.failures → ⊥) → (result ≡ Err RunFault.Device)
+            (length self.old.ports.device.sockets.items) (length self.old.ports.peers.items)
+            self.old.ports.device.failures → ⊥) → (result ≡ Err RunFault.Device)
             × (self.new ≡ self.old) }
         ensures begun { OnOk result (CanTurn (C.port_count self.old.core)
-            (length self.old.device.sockets.items) (length self.old.peers.items)
-            self.old.device.failures) }
-        ensures failures { self.old.device.failures ≡ 0
-            → OnOk result (self.new.device.failures ≡ 0) }
-        ensures peers { self.new.peers ≡ self.old.peers }
+            (length self.old.ports.device.sockets.items) (length self.old.ports.peers.items)
+            self.old.ports.device.failures) }
+        ensures failures { self.old.ports.device.failures ≡ 0
+            → OnOk result (self.new.ports.device.failures ≡ 0) }
+        ensures peers { self.new.ports.peers ≡ self.old.ports.peers }
         ensures ports { C.port_count self.new.core ≡ C.port_count self.old.core }
-        ensures sockets { length self.new.device.sockets.items
-            ≡ length self.old.device.sockets.items }
+        ensures sockets { length self.new.ports.device.sockets.items
+            ≡ length self.old.ports.device.sockets.items }
     {
-        if self.device.failures() > 0 {
+        let ports = self.core.ports();
+        if self.ports.device.failures() > 0 || self.ports.peers.len() != ports {
             return Err(RunFault::Device);
         }
-        match turn(
-            alloc,
-            &mut self.core,
-            &mut self.device,
-            &self.peers,
-            &mut self.clock,
-        ) {
+        match run_once_over_ports(alloc, &mut self.core, &mut self.ports, &mut self.clock) {
             Ok(report) => Ok(report.unmapped),
             Err(fault) => Err(fault),
         }
