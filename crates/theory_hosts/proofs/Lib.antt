@@ -1,0 +1,10 @@
+pub mod Between
+pub mod Planning
+pub mod Turning
+pub mod Taking
+pub mod Working
+pub mod Keeping
+pub mod Addressing
+pub mod Sending
+pub mod Listening
+pub mod Reader

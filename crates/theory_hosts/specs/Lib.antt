@@ -1,0 +1,4 @@
+pub mod TurnCalls
+pub mod BetweenTurns
+pub mod SendingCalls
+pub mod ListeningCalls

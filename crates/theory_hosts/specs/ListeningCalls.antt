@@ -1,0 +1,62 @@
+-- The steps of `ipx listen`, as the calls of a host. The entry points are `ListensByCalls`, of any run, and
+-- `ListensWellByCalls`, of one that ended well. Defined by this project.
+use Rattle.std.specs.Prelude.{ℕ, ◌≡◌, ◌≢◌, All, List, [], ◌∷◌, ◌++◌, Ok, Option, None, Some, flat_map}
+use Rattle.std.specs.Io.KnownBytes.{Appends}
+use Rattle.ipx_carrier.specs.Mapping.{node_at}
+use Rattle.ipx_config.specs.declared.host.HostConfig.{HostConfig}
+use Rattle.ipx_wire.specs.declared.address.Socket.{Socket}
+use Rattle.spx_messages.specs.EndpointView.{EndpointView, buffers_at}
+use Rattle.spx_messages.specs.Taking.{PeerEnd}
+use Rattle.ipx_host.specs.Hosting.{end_of}
+use Rattle.ipx_host.specs.Passing.{Take, bodies_of}
+use Rattle.theory_processes.specs.Course.{IsNewHost}
+use Rattle.theory_processes.specs.HostCalls.{AsksAgain, Begins, Closes, Dials, Fails, Gives, HandsIn, Hears, HostCall, Paces, Releases, Takes}
+use Rattle.theory_processes.specs.Loops.{HostRuns}
+use Rattle.theory_hosts.specs.BetweenTurns.{message_of}
+
+-- a call that a listening host makes: it neither asks for a connection nor ends one, listens nowhere else, and
+-- hands in only messages of no bytes
+abbrev pub IsOfListener : HostCall → Type 0
+IsOfListener (Hears source bytes now answer) = Unit {0}
+IsOfListener (Gives now given) = Unit {0}
+IsOfListener (Dials socket to buffers now id) = ⊥
+IsOfListener (HandsIn id m) = m ≡ message_of []
+IsOfListener (Closes id) = ⊥
+IsOfListener (Takes id answer) = Unit {0}
+IsOfListener (Paces id window manual) = Unit {0}
+IsOfListener (AsksAgain id place) = Unit {0}
+IsOfListener (Releases id) = Unit {0}
+IsOfListener (Begins socket buffers) = ⊥
+IsOfListener Fails = Unit {0}
+
+-- the takes among calls, in order
+abbrev pub take_in : HostCall → List Take
+take_in (Takes id answer) = record { id = id; gave = answer } ∷ []
+take_in call = []
+
+-- calls of a listening host, of which these are the takes
+pub record ListensByCalls (old new : EndpointView) (takes : List Take) : Type 0 where
+  pub calls : List HostCall
+  pub runs : HostRuns calls old new
+  pub kinds : All IsOfListener calls
+  pub took : flat_map take_in calls ≡ takes
+
+-- a run of `ipx listen` that ended well: a new host at the network and node of a file, which listens at the
+-- socket of the file and nowhere else, made these calls. All takes are of one id, and the last one alone gave the
+-- end of the peer. A writer took the bodies of the messages that they gave, one after another
+pub record ListensWellByCalls (file : HostConfig) (written writes : Option (List ℕ)) : Type 0 where
+  pub start : EndpointView
+  pub last : EndpointView
+  pub new : IsNewHost start
+  pub network : start.network ≡ file.network
+  pub node : start.node ≡ node_at file.address
+  pub listens : buffers_at start file.socket ≡ Some file.buffers
+  pub alone : (s : Socket) → s.0 ≢ file.socket.0 → buffers_at start s ≡ None
+  pub takes : List Take
+  pub calls : ListensByCalls start last takes
+  pub id : ℕ
+  pub of_it : All (λ (t : Take). t.id ≡ id) takes
+  pub earlier : List Take
+  pub ends : takes ≡ earlier ++ end_of id ∷ []
+  pub no_other : All (λ (t : Take). t.gave ≢ Ok PeerEnd) earlier
+  pub took : Appends written writes (bodies_of takes)

@@ -1,0 +1,51 @@
+-- A run of `ipx send` that ended with status 0, as the calls of a host, and what follows from it. The entry
+-- points are `SendsByCalls` and `InputIsRead`. Defined by this project.
+use Rattle.std.specs.Prelude.{ℕ, ◌≡◌, List, ◌∷◌, IfSome, Option, Some, flat_map, slice_get}
+use Rattle.ipx_config.specs.declared.host.HostConfig.{HostConfig}
+use Rattle.ipx_wire.specs.declared.address.Address.{Address}
+use Rattle.ipx_carrier.specs.Mapping.{node_at}
+use Rattle.spx_link.specs.LinkView.{LinkView}
+use Rattle.spx_messages.specs.EndpointView.{EndpointView}
+use Rattle.spx_messages.specs.Message.{MessageView}
+use Rattle.spx_theory.specs.Scene.{Scene}
+use Rattle.theory_processes.specs.Course.{Call, IsNewHost}
+use Rattle.theory_processes.specs.HostCalls.{Dials, HostCall}
+use Rattle.theory_processes.specs.Loops.{HostRuns, host_calls}
+use Rattle.theory_processes.specs.Senders.{AllKeepId, IsWholeAt, WereRead, messages_in}
+use Rattle.theory_processes.specs.Site.{Site}
+
+-- the bodies of the messages that these calls hand in at an id, one after another
+abbrev pub bodies_in : ℕ → List HostCall → List ℕ
+bodies_in id calls = flat_map (λ (m : MessageView). m.body) (messages_in id calls)
+
+-- a new host at the network and node of a file dialled an address. Its further calls keep that connection, and
+-- handed in the whole input, if it is known, in order. At the end all of it is acknowledged, and the end too. The
+-- link still goes to that address
+pub record SendsByCalls (file : HostConfig) (to : Address) (input : Option (List ℕ)) : Type 0 where
+  pub start : EndpointView
+  pub last : EndpointView
+  pub id : ℕ
+  pub more : List HostCall
+  pub new : IsNewHost start
+  pub network : start.network ≡ file.network
+  pub node : start.node ≡ node_at file.address
+  pub runs : HostRuns (Dials file.socket to file.buffers 0 id ∷ more) start last
+  pub keeps : AllKeepId id more
+  pub handed : IfSome input (λ bytes. bodies_in id more ≡ bytes)
+  pub whole : IsWholeAt last id
+  pub goes : whole.held.link.remote ≡ to
+
+-- in a course the calls of this host are those of such a run, and it ended as the run did
+pub record RunsAt {file : HostConfig} {to : Address} {input : Option (List ℕ)} (run : SendsByCalls file to input)
+    (calls : List Call) (site : Site) (host : ℕ) : Type 0 where
+  pub are : host_calls host calls ≡ Dials file.socket to file.buffers 0 run.id ∷ run.more
+  pub ends : slice_get site.hosts host ≡ Some run.last
+
+-- the input of a connection, if it is known, has a reader: at a host of the network and node of this address, a
+-- peer took messages whose bodies are the input, one after another, or has the rest of them whole
+pub record InputIsRead (s : Scene) (site : Site) (host id : ℕ) (to : Address) (input : Option (List ℕ)) : Type 0 where
+  pub messages : List MessageView
+  pub bodies : IfSome input (λ bytes. flat_map (λ (m : MessageView). m.body) messages ≡ bytes)
+  pub link : LinkView
+  pub goes : link.remote ≡ to
+  pub read : WereRead s site host id messages link

@@ -1,0 +1,91 @@
+//! Each turn of the core of `ipx send` and of `ipx listen`, and what they do between turns, is a
+//! list of calls of a host.
+
+ghost use Rattle.std.specs.Prelude.{◌≡◌, ◌∷◌, ◌++◌, ℕ, List, Option, [], None};
+ghost use Rattle.ipx_wire.specs.declared.address.Address.{Address};
+ghost use Rattle.spx_messages.specs.EndpointView.{EndpointView, held_at};
+ghost use Rattle.spx_theory.specs.Deeds.{Reached};
+ghost use Rattle.spx_theory.specs.Peers.{IsFresh};
+ghost use Rattle.spx_theory.specs.Scene.{Scene};
+ghost use Rattle.ipx_carrier.specs.Device.{Datagram};
+ghost use Rattle.ipx_carrier.specs.Turns.{FailsMidTurn, Given, Turn, Turns, Ways, packets_of, received_of};
+ghost use Rattle.ipx_carrier.specs.declared.fault.RunFault.{RunFault};
+ghost use Rattle.ipx_config.specs.declared.host.HostConfig.{HostConfig};
+ghost use Rattle.ipx_host.specs.Barring.{HearAllowedOutOfMemory, HearsAllowed};
+ghost use Rattle.ipx_host.specs.Dropping.{DropsCame};
+ghost use Rattle.ipx_host.specs.Feeding.{HandsOn, QueuesEnd};
+ghost use Rattle.ipx_host.specs.Paced.{GivesOnceTold};
+ghost use Rattle.ipx_host.specs.Passing.{PassesOne, takes_from};
+ghost use Rattle.ipx_host.specs.Sessions.{Asks, LetsLinkGo};
+ghost use Rattle.ipx_host.specs.Turning.{gives, hear_out_of_memory, hears, next_out_of_memory};
+ghost use Rattle.ipx_host.specs.declared.paced_host_core.PacedHostCore.{PacedHostCore};
+ghost use Rattle.ipx_host.specs.declared.sessions.Session.{Session};
+ghost use Rattle.theory_processes.specs.Course.{Call, Course, IsNewSite};
+ghost use Rattle.theory_processes.specs.HostCalls.{Closes, DoesHostCall, HandsIn, Releases};
+ghost use Rattle.theory_processes.specs.Loops.{HostRuns, answers_in, if_given};
+ghost use Rattle.theory_processes.specs.Processes.{IdsDiffer};
+ghost use Rattle.theory_processes.specs.Shows.{Shows};
+ghost use Rattle.theory_processes.specs.Site.{Site};
+ghost use Rattle.theory_hosts.specs.BetweenTurns.{DoesOrFails, TakesAre, TakesOf, hands_on, message_of};
+ghost use Rattle.theory_hosts.specs.SendingCalls.{InputIsRead, RunsAt, SendsByCalls};
+ghost use Rattle.theory_hosts.specs.TurnCalls.{MakesCalls};
+
+use theory_processes::status_zero_is_read;
+
+/// Whatever a datagram or a poll does to the core of a host is calls of its endpoint. A barred
+/// request is none, and so is a poll before the host has noted an accepted connection. A plan of
+/// the pacer is calls before the poll.
+pub fn paced_calls_are_host_calls()
+    ensures hears { (old new : PacedHostCore) (bytes : List ℕ) (now : ℕ)
+        → HearsAllowed old bytes now new → MakesCalls old new (bytes ∷ []) [] }
+    ensures loses { (old new : PacedHostCore) (bytes : List ℕ) (now : ℕ)
+        → HearAllowedOutOfMemory old bytes now new → MakesCalls old new [] [] }
+    ensures gives { (old new : PacedHostCore) (now : ℕ) (given : Option Given)
+        → GivesOnceTold old now given new → MakesCalls old new [] (if_given given) }
+{}
+
+/// What a host does between two turns is calls of its endpoint.
+pub fn work_between_turns_is_calls()
+    ensures hands_on { (old new : EndpointView) (id : ℕ) (bytes : List ℕ)
+        → HandsOn old new id bytes → HostRuns (hands_on id bytes) old new }
+    ensures closes { (old new : EndpointView) (id : ℕ)
+        → QueuesEnd old new id → DoesHostCall (Closes id) old new }
+    ensures drops { (old new : EndpointView) (id : ℕ)
+        → DropsCame old new id → TakesOf id old new }
+    ensures passes { (old new : EndpointView) (waiting left : List ℕ) (written writes : Option (List ℕ))
+        (c c' : Session) → (p : PassesOne old new waiting left written writes c c')
+        → TakesAre (takes_from (held_at old c.id) (held_at new c.id) waiting left written writes c c' p.from)
+        old new }
+    ensures probes { (now : ℕ) (old new : EndpointView) (c c' : Session)
+        → Asks now old new c c' → DoesOrFails (HandsIn c.id (message_of [])) old new }
+    ensures releases { (old new : EndpointView) (id : ℕ)
+        → LetsLinkGo old new id → DoesOrFails (Releases id) old new }
+{}
+
+/// Turns of a host over a device are calls of its endpoint, which received and gave the same, in
+/// the same order. So is a turn that a fault ends: what it read is what the ports gave before.
+pub fn paced_turns_are_calls()
+    ensures turns { (course : List Turn) (old new : PacedHostCore)
+        → Turns hears gives 1 course old new
+        → MakesCalls old new (answers_in (λ port bytes. bytes) (received_of course)) (packets_of course) }
+    ensures faults { (ways : Ways Datagram) (t : Turn) (sent : List Datagram) (fault : RunFault)
+        (old new : PacedHostCore)
+        → FailsMidTurn hears hear_out_of_memory gives next_out_of_memory 1 ways t sent fault old new
+        → (received lost : List (List ℕ)) × (answers_in (λ port bytes. bytes) t.answers ≡ received ++ lost)
+        × MakesCalls old new received t.packets }
+{}
+
+/// Take a run of `ipx send` that ended with status 0 among the calls of any hosts and routers.
+/// Assume that nothing arrives except what they sent, and that no id is given twice at one network
+/// and node. If what is read is recent, a peer at the address that was dialled took exactly the
+/// input, or has the rest of it whole.
+pub fn sent_input_is_read()
+    ensures { (file : HostConfig) (to : Address) (input : Option (List ℕ)) (run : SendsByCalls file to input)
+        (start site : Site) (calls : List Call) (host : ℕ)
+        → IsNewSite start → Course calls start site → IdsDiffer site → site.outside ≡ []
+        → RunsAt run calls site host
+        → (s : Scene) × Reached s × Shows s site
+        × (IsFresh s.log → InputIsRead s site host run.id to input) }
+{
+    status_zero_is_read();
+}

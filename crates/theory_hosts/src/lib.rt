@@ -1,0 +1,12 @@
+//! What `ipx send` and `ipx listen` do to their endpoints is calls of a host of
+//! `theory_processes`. This crate is theory, without code.
+#![tactic(auto)]
+
+mod laws;
+mod programs;
+
+pub use laws::{
+    paced_calls_are_host_calls, paced_turns_are_calls, sent_input_is_read,
+    work_between_turns_is_calls,
+};
+pub use programs::{listen, send};
