@@ -8,7 +8,7 @@ use Rattle.std.proofs.lemmas.List.Quantifiers.{position-Some}
 use Rattle.std.proofs.lemmas.Option.{slice_get-get_or}
 use Rattle.std.specs.List.{list_any}
 use Rattle.std.proofs.lemmas.List.Elements.{All-append, All-cons, All-head, All-nil, All-tail}
-use Rattle.ipx_carrier.specs.Turns.{Peers}
+use Rattle.ipx_carrier.specs.Turns.{Peers, Turn}
 use Rattle.ipx_wire.specs.declared.address.Address.{Address}
 use Rattle.ipx_wire.specs.declared.address.Network.{Network}
 use Rattle.ipx_wire.specs.declared.address.Socket.{Socket}
@@ -213,25 +213,25 @@ tidies once old new cs cs' (Some stop) t = after old.endpoint t.2.endpoint new.e
 
 -- ---- steps
 
-module _ {K : Type 0} (once : Bool) (tells : K → ℕ → K → Type 0) (peers : Peers) where
-  hears_and_notes : (old new : PacedHostCore) (clock clock' : K) (cs cs' : List Session) → HearsAndNotesAll clock clock' old new cs cs' once tells peers → ListensByCalls old.endpoint new.endpoint []
-  hears_and_notes old new clock clock' cs cs' h =
-      after old.endpoint h.seen.endpoint new.endpoint [] [] (turned old h.seen (host_turn tells peers clock clock' old h.seen h.turn h.turned)) (notes_if h.turn.heard once h.seen new cs cs' h.noted)
+module _ {K : Type 0} (once : Bool) (drives : K → Turn → K → Type 0) (peers : Peers) where
+  hears_and_notes : (old new : PacedHostCore) (around around' : K) (cs cs' : List Session) → HearsAndNotesAll around around' old new cs cs' once drives peers → ListensByCalls old.endpoint new.endpoint []
+  hears_and_notes old new around around' cs cs' h =
+      after old.endpoint h.seen.endpoint new.endpoint [] [] (turned old h.seen (host_turn drives peers around around' old h.seen h.turn h.turned)) (notes_if h.turn.heard once h.seen new cs cs' h.noted)
 
-  step : (old new : Host K) (stop : Option ListenOutcome) (view : StepView) → Steps old new once stop tells peers view → ListensByCalls old.core.endpoint new.core.endpoint view.takes
+  step : (old new : Host K) (stop : Option ListenOutcome) (view : StepView) → Steps old new once stop drives peers view → ListensByCalls old.core.endpoint new.core.endpoint view.takes
   step old new stop view s =
       let moved : ListensByCalls s.heard.endpoint s.moved.endpoint view.takes = moves s.heard s.moved view.there s.still old.left new.left old.written new.written view.takes s.moves.0 in
       subst (ListensByCalls old.core.endpoint new.core.endpoint) (append-nil view.takes)
       (after old.core.endpoint s.moved.endpoint new.core.endpoint view.takes []
-      (after old.core.endpoint s.heard.endpoint s.moved.endpoint [] view.takes (hears_and_notes old.core s.heard old.clock new.clock old.sessions view.there s.hears) moved)
+      (after old.core.endpoint s.heard.endpoint s.moved.endpoint [] view.takes (hears_and_notes old.core s.heard old.around new.around old.sessions view.there s.hears) moved)
       (tidies once s.moved new.core s.still new.sessions stop s.tidied))
 
-  broken : (old new : Host K) (view : StepView) → WriterBreaksOff old new once tells peers view → ListensByCalls old.core.endpoint new.core.endpoint view.takes
+  broken : (old new : Host K) (view : StepView) → WriterBreaksOff old new once drives peers view → ListensByCalls old.core.endpoint new.core.endpoint view.takes
   broken old new view s =
-      after old.core.endpoint s.heard.endpoint new.core.endpoint [] view.takes (hears_and_notes old.core s.heard old.clock new.clock old.sessions view.there s.hears)
+      after old.core.endpoint s.heard.endpoint new.core.endpoint [] view.takes (hears_and_notes old.core s.heard old.around new.around old.sessions view.there s.hears)
       (moves s.heard new.core view.there new.sessions old.left new.left old.written new.written view.takes s.moves)
 
-  steps_to : (old new : Host K) (stop : Option ListenOutcome) (view : StepView) → StepsTo old new once stop tells peers view → ListensByCalls old.core.endpoint new.core.endpoint view.takes
+  steps_to : (old new : Host K) (stop : Option ListenOutcome) (view : StepView) → StepsTo old new once stop drives peers view → ListensByCalls old.core.endpoint new.core.endpoint view.takes
   steps_to old new None view s = step old new None view s
   steps_to old new (Some Ended) view s = step old new (Some Ended) view s
   steps_to old new (Some Lost) view s = step old new (Some Lost) view s
@@ -245,13 +245,13 @@ module _ {K : Type 0} (once : Bool) (tells : K → ℕ → K → Type 0) (peers 
   one_more : (before : List StepView) (now : StepView) (steps : List StepView) → steps ≡ before ++ now ∷ [] → takes_of before ++ now.takes ≡ takes_of steps
   one_more before now steps is = ap (λ l. takes_of before ++ l) (sym (append-nil now.takes)) ∙ sym (takes_more before (now ∷ [])) ∙ ap takes_of (sym is)
 
-  steps_on : (n : ℕ) (old new : Host K) (steps : List StepView) → StepsWithoutStop n old new once tells peers steps → ListensByCalls old.core.endpoint new.core.endpoint (takes_of steps)
+  steps_on : (n : ℕ) (old new : Host K) (steps : List StepView) → StepsWithoutStop n old new once drives peers steps → ListensByCalls old.core.endpoint new.core.endpoint (takes_of steps)
   steps_on zero old new steps s = subst (ListensByCalls old.core.endpoint new.core.endpoint) (ap takes_of (sym s.1)) (nothing old.core.endpoint new.core.endpoint (ap (λ (h : Host K). h.core.endpoint) s.0))
   steps_on (suc n) old new steps s =
       subst (ListensByCalls old.core.endpoint new.core.endpoint) (one_more s.1 s.2 steps s.3)
       (after old.core.endpoint s.0.core.endpoint new.core.endpoint (takes_of s.1) s.2.takes (steps_on n old s.0 s.1 s.4) (step s.0 new None s.2 s.5))
 
-  pub serves : (old new : Host K) (stop : ListenOutcome) (steps : List StepView) → Serves old new once stop tells peers steps → ListensByCalls old.core.endpoint new.core.endpoint (takes_of steps)
+  pub serves : (old new : Host K) (stop : ListenOutcome) (steps : List StepView) → Serves old new once stop drives peers steps → ListensByCalls old.core.endpoint new.core.endpoint (takes_of steps)
   serves old new stop steps s = elim s [
     | inl ends ↦
         subst (ListensByCalls old.core.endpoint new.core.endpoint) (one_more ends.2 ends.3 steps ends.4)
@@ -271,9 +271,9 @@ in_range file e range listens alone s n is = elim (cases_eq s.0 file.socket.0) [
   | inr apart ↦ absurd (cc (sym (alone s apart) ∙ is))
 ]
 
-pub listens_well : {K : Type 0} (file : HostConfig) (once : Bool) (written writes : Option (List ℕ)) (tells : K → ℕ → K → Type 0) → file.network.0 ≢ 0 → (0 < file.buffers) × (file.buffers ≤ most_units)
-    → ListensWell file once written writes tells → ListensWellByCalls file written writes
-listens_well file once written writes tells network range w =
+pub listens_well : {K : Type 0} (file : HostConfig) (once : Bool) (written writes : Option (List ℕ)) (drives : K → Turn → K → Type 0) → file.network.0 ≢ 0 → (0 < file.buffers) × (file.buffers ≤ most_units)
+    → ListensWell file once written writes drives → ListensWellByCalls file written writes
+listens_well file once written writes drives network range w =
     let b = w.begins in
     record {
       start = w.start.core.endpoint;
@@ -288,7 +288,7 @@ listens_well file once written writes tells network range w =
       listens = b.listens;
       alone = b.alone;
       takes = takes_of w.steps;
-      calls = serves once tells w.peers w.start w.serves.0 Ended w.steps w.serves.1;
+      calls = serves once drives w.peers w.start w.serves.0 Ended w.steps w.serves.1;
       id = w.id;
       of_it = w.one.of_it;
       earlier = w.one.earlier;

@@ -9,7 +9,7 @@ use Rattle.std.proofs.lemmas.Bool.Decides.{Decides-eqb}
 use Rattle.std.proofs.lemmas.Grind.{flat_map-append}
 use Rattle.std.proofs.lemmas.List.{append-nil}
 use Rattle.std.proofs.lemmas.List.Elements.{All-append, All-cons, All-head, All-nil, All-tail}
-use Rattle.ipx_carrier.specs.Turns.{Given, Peers}
+use Rattle.ipx_carrier.specs.Turns.{Peers, Turn}
 use Rattle.ipx_config.specs.declared.host.HostConfig.{HostConfig}
 use Rattle.ipx_wire.specs.declared.address.Address.{Address}
 use Rattle.spx_link.specs.Links.{LinksView, id_after}
@@ -135,23 +135,23 @@ fed_on id seen old new bytes f =
     after id seen f.dropped new.endpoint [] bytes (dropped id seen f.dropped f.drops)
     (fed id (record old { endpoint = f.dropped; acked_bytes = f.acked_bytes }) new bytes f.feeds)
 
-module _ {K : Type 0} (tells : K → ℕ → K → Type 0) (peers : Peers) (id : ℕ) where
-  round : (old new : SendState K) (bytes : List ℕ) → Round old new bytes tells peers id → Sends id old.core.endpoint new.core.endpoint bytes
+module _ {K : Type 0} (drives : K → Turn → K → Type 0) (peers : Peers) (id : ℕ) where
+  round : (old new : SendState K) (bytes : List ℕ) → Round old new bytes drives peers id → Sends id old.core.endpoint new.core.endpoint bytes
   round old new bytes r =
-      after id old.core.endpoint r.seen.endpoint new.core.endpoint [] bytes (turned id old.core r.seen (host_turn tells peers old.clock new.clock old.core r.seen r.turn r.turned))
+      after id old.core.endpoint r.seen.endpoint new.core.endpoint [] bytes (turned id old.core r.seen (host_turn drives peers old.around new.around old.core r.seen r.turn r.turned))
       (fed_on id r.seen.endpoint (feeding_of old) (feeding_of new) bytes r.fed)
 
-  rounds : (old new : SendState K) (bodies : List (List ℕ)) → Rounds old bodies new tells peers id → Sends id old.core.endpoint new.core.endpoint (concat bodies)
+  rounds : (old new : SendState K) (bodies : List (List ℕ)) → Rounds old bodies new drives peers id → Sends id old.core.endpoint new.core.endpoint (concat bodies)
   rounds old new [] r = nothing id old.core.endpoint new.core.endpoint (ap (λ (s : SendState K). s.core.endpoint) r)
   rounds old new (bytes ∷ more) r =
       after id old.core.endpoint r.0.core.endpoint new.core.endpoint bytes (concat more) (round old r.0 bytes r.1) (rounds r.0 new more r.2)
 
-  runs_out : (old new : SendState K) (bodies : List (List ℕ)) → RunsOut old bodies new tells peers id → Sends id old.core.endpoint new.core.endpoint (concat bodies)
+  runs_out : (old new : SendState K) (bodies : List (List ℕ)) → RunsOut old bodies new drives peers id → Sends id old.core.endpoint new.core.endpoint (concat bodies)
   runs_out old new bodies r =
-      let l : LastRound r.0 new tells peers id = r.2 in
+      let l : LastRound r.0 new drives peers id = r.2 in
       subst (Sends id old.core.endpoint new.core.endpoint) (append-nil (concat bodies))
       (after id old.core.endpoint r.0.core.endpoint new.core.endpoint (concat bodies) [] (rounds old r.0 bodies r.1)
-      (turned id r.0.core new.core (host_turn tells peers r.0.clock new.clock r.0.core new.core l.turn l.turned)))
+      (turned id r.0.core new.core (host_turn drives peers r.0.around new.around r.0.core new.core l.turn l.turned)))
 
 -- ---- the call that begins it
 
@@ -192,14 +192,14 @@ all_of None b bs got p q e = tt
 all_of (Some x) None bs got p q e = absurd p
 all_of (Some x) (Some y) bs got p q e = e ∙ sym (p ∙ ap (λ l. bs ++ l) q ∙ append-nil bs)
 
-pub sends : {K : Type 0} → NameLaws → (file : HostConfig) (to : Address) (known left : Option (List ℕ)) (tells : K → ℕ → K → Type 0) → file.network.0 ≢ 0
-    → SendsWholeInput file to known left tells → SendsByCalls file to known
+pub sends : {K : Type 0} → NameLaws → (file : HostConfig) (to : Address) (known left : Option (List ℕ)) (drives : K → Turn → K → Type 0) → file.network.0 ≢ 0
+    → SendsWholeInput file to known left drives → SendsByCalls file to known
 unfolding undialled
-sends laws file to known left tells network w =
+sends laws file to known left drives network w =
     let s = w.sends in
     let t = s.transfers in
     let e : EndpointView = s.start.core.endpoint in
-    let r : Sends s.id e s.last.core.endpoint (concat t.bodies) = runs_out tells s.peers s.id s.start s.last t.bodies t.runs in
+    let r : Sends s.id e s.last.core.endpoint (concat t.bodies) = runs_out drives s.peers s.id s.start s.last t.bodies t.runs in
     let link : IsWholeLink s.last.core.endpoint s.id = s.whole in
     let input : Consumes known left (concat t.bodies) = subst (λ a. Consumes a left (concat t.bodies)) s.begins (subst (λ b. Consumes s.start.known b (concat t.bodies)) s.ends t.fed) in
     record {

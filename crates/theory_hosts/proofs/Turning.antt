@@ -217,12 +217,9 @@ faults ways t sent fault old new b = elim b [
 abbrev pub Made : PacedHostCore → PacedHostCore → Type 0
 Made old new = (received : List (List ℕ)) × (packets : List Given) × MakesCalls old new received packets
 
-pub host_turn : {K : Type 0} (tells : K → ℕ → K → Type 0) (peers : Peers) (clock clock' : K) (old new : PacedHostCore) (turn : Activity)
-    → TakesHostTurn clock clock' tells peers old new turn → Made old new
-host_turn tells peers clock clock' old new turn t = elim t [
-  | inl whole ↦ (answers (received_of whole.1.0), packets_of whole.1.0, turns whole.1.0 old new whole.1.2)
-  | inr part ↦
-      let p = part.0 in
-      let f : ReadsBefore p.1 p.3 new = faults (by_ip peers) p.1 p.2 OutOfMemory p.3 new p.6 in
-      (answers (received_of p.0) ++ f.0, packets_of p.0 ++ p.1.packets, after old p.3 new (answers (received_of p.0)) f.0 (packets_of p.0) p.1.packets (turns p.0 old p.3 p.5) f.3)
+pub host_turn : {K : Type 0} (drives : K → Turn → K → Type 0) (peers : Peers) (around around' : K) (old new : PacedHostCore) (turn : Activity)
+    → TakesHostTurn around around' drives peers old new turn → Made old new
+host_turn drives peers around around' old new turn t = elim t [
+  | inl whole ↦ (answers whole.0.answers, whole.0.packets, a_turn whole.0 old new whole.1)
+  | inr part ↦ let f : ReadsBefore part.0 old new = faults (by_ip peers) part.0 part.1 OutOfMemory old new part.2 in (f.0, part.0.packets, f.3)
 ]
