@@ -1,17 +1,22 @@
--- The steps of `ipx listen`, as the calls of a host. The entry points are `ListensByCalls`, of any run, and
--- `ListensWellByCalls`, of one that ended well. Defined by this project.
-use Rattle.std.specs.Prelude.{ℕ, ◌≡◌, ◌≢◌, All, List, [], ◌∷◌, ◌++◌, Ok, Option, None, Some, flat_map}
+-- The steps of `ipx listen`, as the calls of a host, and what follows from them. The entry points are
+-- `ListensByCalls`, of any run, `ListensWellByCalls`, of one that ended well, and `OutputIsInput`. Defined by
+-- this project.
+use Rattle.std.specs.Prelude.{ℕ, ◌≡◌, ◌≢◌, All, List, [], ◌∷◌, ◌++◌, Ok, Option, None, Some, flat_map, slice_get}
 use Rattle.std.specs.Io.KnownBytes.{Appends}
 use Rattle.ipx_carrier.specs.Mapping.{node_at}
 use Rattle.ipx_config.specs.declared.host.HostConfig.{HostConfig}
 use Rattle.ipx_wire.specs.declared.address.Socket.{Socket}
 use Rattle.spx_messages.specs.EndpointView.{EndpointView, buffers_at}
+use Rattle.spx_messages.specs.Message.{MessageView}
 use Rattle.spx_messages.specs.Taking.{PeerEnd}
+use Rattle.spx_theory.specs.Peers.{ArePeers}
+use Rattle.spx_theory.specs.Scene.{Scene}
 use Rattle.ipx_host.specs.Hosting.{end_of}
 use Rattle.ipx_host.specs.Passing.{Take, bodies_of}
-use Rattle.theory_processes.specs.Course.{IsNewHost}
+use Rattle.theory_processes.specs.Course.{Call, IsNewHost}
 use Rattle.theory_processes.specs.HostCalls.{AsksAgain, Begins, Closes, Dials, Fails, Gives, HandsIn, Hears, HostCall, Paces, Releases, Takes}
-use Rattle.theory_processes.specs.Loops.{HostRuns}
+use Rattle.theory_processes.specs.Loops.{HostRuns, host_calls}
+use Rattle.theory_processes.specs.Site.{Connection, Site}
 use Rattle.theory_hosts.specs.BetweenTurns.{message_of}
 
 -- a call that a listening host makes: it neither asks for a connection nor ends one, listens nowhere else, and
@@ -60,3 +65,23 @@ pub record ListensWellByCalls (file : HostConfig) (written writes : Option (List
   pub ends : takes ≡ earlier ++ end_of id ∷ []
   pub no_other : All (λ (t : Take). t.gave ≢ Ok PeerEnd) earlier
   pub took : Appends written writes (bodies_of takes)
+
+-- in a course the calls of this host are those of such a run, and it ended as the run did
+pub record ListensAt {file : HostConfig} {written writes : Option (List ℕ)} (run : ListensWellByCalls file written writes)
+    (calls : List Call) (site : Site) (host : ℕ) : Type 0 where
+  pub are : host_calls host calls ≡ run.calls.calls
+  pub ends : slice_get site.hosts host ≡ Some run.last
+
+-- what a writer took is all that the peer of a connection at this host handed in: the bodies of its messages, one
+-- after another
+pub record OutputIsInput (s : Scene) (site : Site) (host id : ℕ) (written writes : Option (List ℕ)) : Type 0 where
+  pub one : ℕ
+  pub two : ℕ
+  pub sender : Connection
+  pub reader : Connection
+  pub peers : ArePeers s.log one two
+  pub there : slice_get site.connections one ≡ Some sender
+  pub there_too : slice_get site.connections two ≡ Some reader
+  pub host_is : reader.host ≡ host
+  pub id_is : reader.id ≡ id
+  pub wrote : Appends written writes (flat_map (λ (m : MessageView). m.body) sender.given)

@@ -1,7 +1,8 @@
 //! Each turn of the core of `ipx send` and of `ipx listen`, and what they do between turns, is a
 //! list of calls of a host.
 
-ghost use Rattle.std.specs.Prelude.{◌≡◌, ◌∷◌, ◌++◌, ℕ, List, Option, [], None};
+ghost use Rattle.std.specs.Prelude.{◌≡◌, ◌∷◌, ◌++◌, ℕ, IfSome, List, Option, [], None};
+ghost use Rattle.std.specs.Io.KnownBytes.{Appends};
 ghost use Rattle.ipx_wire.specs.declared.address.Address.{Address};
 ghost use Rattle.spx_messages.specs.EndpointView.{EndpointView, held_at};
 ghost use Rattle.spx_theory.specs.Deeds.{Reached};
@@ -27,10 +28,13 @@ ghost use Rattle.theory_processes.specs.Processes.{IdsDiffer};
 ghost use Rattle.theory_processes.specs.Shows.{Shows};
 ghost use Rattle.theory_processes.specs.Site.{Site};
 ghost use Rattle.theory_hosts.specs.BetweenTurns.{DoesOrFails, TakesAre, TakesOf, hands_on, message_of};
+ghost use Rattle.theory_hosts.specs.ListeningCalls.{ListensAt, ListensWellByCalls, OutputIsInput};
 ghost use Rattle.theory_hosts.specs.SendingCalls.{InputIsRead, RunsAt, SendsByCalls};
 ghost use Rattle.theory_hosts.specs.TurnCalls.{MakesCalls};
 
-use theory_processes::status_zero_is_read;
+use theory_processes::{
+    courses_are_scenes, processes_hand_on, senders_hand_in, status_zero_is_read,
+};
 
 /// Whatever a datagram or a poll does to the core of a host is calls of its endpoint. A barred
 /// request is none, and so is a poll before the host has noted an accepted connection. A plan of
@@ -88,4 +92,27 @@ pub fn sent_input_is_read()
         × (IsFresh s.log → InputIsRead s site host run.id to input) }
 {
     status_zero_is_read();
+}
+
+/// Take a run of `ipx listen` that ended with status 0 among the calls of any hosts and routers,
+/// under the same premises. Its writer then took all that the peer of one connection handed in.
+/// If that peer is a run of `ipx send` that ended with status 0, the writer took just its input.
+pub fn listened_output_is_input()
+    ensures output { (file : HostConfig) (written writes : Option (List ℕ)) (run : ListensWellByCalls file written writes)
+        (start site : Site) (calls : List Call) (host : ℕ)
+        → IsNewSite start → Course calls start site → IdsDiffer site → site.outside ≡ []
+        → ListensAt run calls site host
+        → (s : Scene) × Reached s × Shows s site
+        × (IsFresh s.log → OutputIsInput s site host run.id written writes) }
+    ensures both_end_well { (file : HostConfig) (to : Address) (input : Option (List ℕ)) (run : SendsByCalls file to input)
+        (start site : Site) (calls : List Call) (host : ℕ)
+        → Course calls start site → IdsDiffer site → RunsAt run calls site host
+        → (s : Scene) (reader id : ℕ) (written writes : Option (List ℕ))
+        → (o : OutputIsInput s site reader id written writes)
+        → o.sender.host ≡ host → o.sender.id ≡ run.id
+        → IfSome input (λ bytes. Appends written writes bytes) }
+{
+    courses_are_scenes();
+    processes_hand_on();
+    senders_hand_in();
 }

@@ -6,7 +6,7 @@ mod laws;
 mod programs;
 
 pub use laws::{
-    paced_calls_are_host_calls, paced_turns_are_calls, sent_input_is_read,
-    work_between_turns_is_calls,
+    listened_output_is_input, paced_calls_are_host_calls, paced_turns_are_calls,
+    sent_input_is_read, work_between_turns_is_calls,
 };
 pub use programs::{listen, send};
