@@ -33,7 +33,6 @@ mod static_lists;
 mod static_tables;
 mod static_values;
 mod statics;
-mod status;
 mod target;
 mod text;
 mod toml_text;
@@ -57,5 +56,5 @@ pub use site::{
 };
 pub use start_lines::{dotted, others, ports_to_texts, reached_to_text};
 pub use statics::{StaticEntry, StaticItem, is_one_source};
-pub use status::{TEMPORARY, write_whole};
 pub use target::{Target, TargetFault};
+pub use values::TEMPORARY;

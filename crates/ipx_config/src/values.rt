@@ -8,11 +8,13 @@ ghost use Rattle.ipx_config.specs.Fields.{Reads};
 ghost use Rattle.ipx_config.specs.Values.{is_peer};
 
 use crate::site::{Accept, Directed, Kind};
-use crate::status::TEMPORARY;
 use ipx_wire::{Network, OutOfMemory, Socket};
 use std::alloc::Global;
 use std::net::Ipv4Addr;
 use toml::Value;
+
+/// The suffix of the temporary file to which a file is written first.
+pub const TEMPORARY: &str = ".new";
 
 /// Parses a network that is neither 0 nor ffffffff.
 pub fn network_written(text: &[u8]) -> Option<Network>
