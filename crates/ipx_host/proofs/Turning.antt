@@ -52,10 +52,10 @@ module _ {R : Type 0} (marks : HostPort → Readiness) (fails_to_receive : HostP
       → (taken : TakesHostTurn before after DrivesTurn (peers_of before.port.peers.items) old new turn) × (m ≡ refused_after taken n)
   took there (Ok report) turn n m e none whole part told ended counts =
       let h : Took (marked_port before.port) report = subst (λ (p : HostPort). Took p report) e whole in
-      (inl (h.0, h.1, (h.2, h.5, h.6, h.7), subst (λ (r : Report). TellsOf r turn) h.3 told), counts)
+      (inl (h.0, h.1, (h.2, (h.5, h.6, h.7)), subst (λ (r : Report). TellsOf r turn) h.3 told), counts)
   took there (Err OutOfMemory) turn n m e none whole part told ended counts =
       let h : Broke (marked_port before.port) OutOfMemory = subst (λ (p : HostPort). Broke p OutOfMemory) e part in
-      (inr (h.0, h.1, h.2, (h.3, h.5, h.6, h.7), ended.0, ended.1), counts)
+      (inr (h.0, h.1, h.2, (h.3, (h.5, h.6, h.7)), ended.0, ended.1), counts)
   took there (Err Device) turn n m e none whole part told ended counts = absurd (cc)
 
   -- its peers stay
