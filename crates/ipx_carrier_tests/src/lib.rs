@@ -7,6 +7,8 @@ mod again;
 #[cfg(test)]
 mod bursts;
 #[cfg(test)]
+mod connections;
+#[cfg(test)]
 mod fixture;
 #[cfg(test)]
 mod flood;
@@ -19,6 +21,10 @@ mod port_drivers;
 #[cfg(test)]
 mod port_marks;
 #[cfg(test)]
+mod premises;
+#[cfg(test)]
+mod processes;
+#[cfg(test)]
 mod queues;
 #[cfg(test)]
 mod refused;
@@ -26,6 +32,8 @@ mod refused;
 mod refused_calls;
 #[cfg(test)]
 mod refused_turns;
+#[cfg(test)]
+mod sites;
 #[cfg(test)]
 mod turns;
 #[cfg(test)]
