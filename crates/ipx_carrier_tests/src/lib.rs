@@ -9,6 +9,14 @@ mod bursts;
 #[cfg(test)]
 mod connections;
 #[cfg(test)]
+mod course;
+#[cfg(test)]
+mod courses;
+#[cfg(test)]
+mod drawn_sites;
+#[cfg(test)]
+mod draws;
+#[cfg(test)]
 mod fixture;
 #[cfg(test)]
 mod flood;
