@@ -252,7 +252,7 @@ Status 0: the other host has acknowledged all of the input, and the end after it
 not have read the last of it. 1: no answer, or the connection is lost or closed by the other end,
 and a line on standard error says how much was acknowledged; reading the input failed, the socket
 cannot be bound, or out of memory. 2: an argument or the file has a fault, or NODE is on the host's
-own network and no host can have it, which one line reports, and nothing was bound.
+own network and is no host's IP address, which one line reports, and nothing was bound.
 
 A connection is lost five to thirty seconds after the last packet of a host that acknowledges
 nothing. There is no limit while a host that still answers has no buffers free, and no wait once
@@ -329,8 +329,8 @@ data. No listen or send with the same address may run meanwhile.";
 pub const PING_STATUSES: &str = "\
 It ends once the last request is answered, or two seconds after it.
 Status 0: one was answered. 1: none was, writing failed, the socket cannot be bound, or out of
-memory. 2: an argument or the file has a fault, or NODE is on the host's own network and has no IP
-address, which one line reports, and nothing was bound.
+memory. 2: an argument or the file has a fault, or NODE is on the host's own network and is no
+host's IP address, which one line reports, and nothing was bound.
 
 Example:
   $ ipx ping -c 1 /etc/ipx/host.toml 00000022 00000a02001e 4002";
