@@ -8,3 +8,4 @@ pub mod Addressing
 pub mod Sending
 pub mod Listening
 pub mod Reader
+pub mod Marks

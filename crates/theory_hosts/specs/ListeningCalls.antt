@@ -1,6 +1,5 @@
 -- The steps of `ipx listen`, as the calls of a host, and what follows from them. The entry points are
--- `ListensByCalls`, of any run, `ListensWellByCalls`, of one that ended well, and `OutputIsInput`. Defined by
--- this project.
+-- `ListensWellByCalls`, of a run that ended well, and `OutputIsInput`. Defined by this project.
 use Rattle.std.specs.Prelude.{ℕ, ◌≡◌, ◌≢◌, All, List, [], ◌∷◌, ◌++◌, Ok, Option, None, Some, flat_map, slice_get}
 use Rattle.std.specs.Io.KnownBytes.{Appends}
 use Rattle.ipx_carrier.specs.Mapping.{node_at}
@@ -14,8 +13,8 @@ use Rattle.spx_theory.specs.Scene.{Scene}
 use Rattle.ipx_host.specs.Hosting.{end_of}
 use Rattle.ipx_host.specs.Passing.{Take, bodies_of}
 use Rattle.theory_processes.specs.Course.{Call, IsNewHost}
-use Rattle.theory_processes.specs.HostCalls.{AsksAgain, Begins, Closes, Dials, Fails, Gives, HandsIn, Hears, HostCall, Paces, Releases, Takes}
-use Rattle.theory_processes.specs.Loops.{HostRuns, host_calls}
+use Rattle.theory_processes.specs.HostCalls.{AsksAgain, Begins, Closes, Dials, Fails, Gives, HandsIn, Hears, HostCall, Paces, Releases, Source, Takes}
+use Rattle.theory_processes.specs.Loops.{HostRuns, host_calls, marked}
 use Rattle.theory_processes.specs.Site.{Connection, Site}
 use Rattle.theory_hosts.specs.BetweenTurns.{message_of}
 
@@ -66,10 +65,12 @@ pub record ListensWellByCalls (file : HostConfig) (written writes : Option (List
   pub no_other : All (λ (t : Take). t.gave ≢ Ok PeerEnd) earlier
   pub took : Appends written writes (bodies_of takes)
 
--- in a course the calls of this host are those of such a run, and it ended as the run did
+-- in a course the calls of this host are those of such a run, and it ended as the run did. The course says where
+-- the datagrams came from
 pub record ListensAt {file : HostConfig} {written writes : Option (List ℕ)} (run : ListensWellByCalls file written writes)
     (calls : List Call) (site : Site) (host : ℕ) : Type 0 where
-  pub are : host_calls host calls ≡ run.calls.calls
+  pub sources : List Source
+  pub are : host_calls host calls ≡ marked sources run.calls.calls
   pub ends : slice_get site.hosts host ≡ Some run.last
 
 -- what a writer took is all that the peer of a connection at this host handed in: the bodies of its messages, one

@@ -9,8 +9,8 @@ use Rattle.spx_messages.specs.EndpointView.{EndpointView}
 use Rattle.spx_messages.specs.Message.{MessageView}
 use Rattle.spx_theory.specs.Scene.{Scene}
 use Rattle.theory_processes.specs.Course.{Call, IsNewHost}
-use Rattle.theory_processes.specs.HostCalls.{Dials, HostCall}
-use Rattle.theory_processes.specs.Loops.{HostRuns, host_calls}
+use Rattle.theory_processes.specs.HostCalls.{Dials, HostCall, Source}
+use Rattle.theory_processes.specs.Loops.{HostRuns, host_calls, marked}
 use Rattle.theory_processes.specs.Senders.{AllKeepId, IsWholeAt, WereRead, messages_in}
 use Rattle.theory_processes.specs.Site.{Site}
 
@@ -35,10 +35,12 @@ pub record SendsByCalls (file : HostConfig) (to : Address) (input : Option (List
   pub whole : IsWholeAt last id
   pub goes : whole.held.link.remote ≡ to
 
--- in a course the calls of this host are those of such a run, and it ended as the run did
+-- in a course the calls of this host are those of such a run, and it ended as the run did. The course says where
+-- the datagrams came from
 pub record RunsAt {file : HostConfig} {to : Address} {input : Option (List ℕ)} (run : SendsByCalls file to input)
     (calls : List Call) (site : Site) (host : ℕ) : Type 0 where
-  pub are : host_calls host calls ≡ Dials file.socket to file.buffers 0 run.id ∷ run.more
+  pub sources : List Source
+  pub are : host_calls host calls ≡ marked sources (Dials file.socket to file.buffers 0 run.id ∷ run.more)
   pub ends : slice_get site.hosts host ≡ Some run.last
 
 -- the input of a connection, if it is known, has a reader: at a host of the network and node of this address, a

@@ -86,10 +86,10 @@ pub fn paced_turns_are_calls()
 pub fn sent_input_is_read()
     ensures { (file : HostConfig) (to : Address) (input : Option (List ℕ)) (run : SendsByCalls file to input)
         (start site : Site) (calls : List Call) (host : ℕ)
-        → IsNewSite start → Course calls start site → IdsDiffer site → site.outside ≡ []
+        → Course calls start site → IdsDiffer site → site.outside ≡ []
         → RunsAt run calls site host
-        → (s : Scene) × Reached s × Shows s site
-        × (IsFresh s.log → InputIsRead s site host run.id to input) }
+        → (s : Scene) → Reached s → Shows s site → IsFresh s.log
+        → InputIsRead s site host run.id to input }
 {
     status_zero_is_read();
 }
@@ -102,8 +102,8 @@ pub fn listened_output_is_input()
         (start site : Site) (calls : List Call) (host : ℕ)
         → IsNewSite start → Course calls start site → IdsDiffer site → site.outside ≡ []
         → ListensAt run calls site host
-        → (s : Scene) × Reached s × Shows s site
-        × (IsFresh s.log → OutputIsInput s site host run.id written writes) }
+        → (s : Scene) → Reached s → Shows s site → IsFresh s.log
+        → OutputIsInput s site host run.id written writes }
     ensures both_end_well { (file : HostConfig) (to : Address) (input : Option (List ℕ)) (run : SendsByCalls file to input)
         (start site : Site) (calls : List Call) (host : ℕ)
         → Course calls start site → IdsDiffer site → RunsAt run calls site host
