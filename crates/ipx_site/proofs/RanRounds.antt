@@ -37,7 +37,7 @@ when_well (Err e) failed P same p well = absurd (let no : true ≡ false = same 
 pub took_round : {R T E : Type 0} (old new : RunningRouter R) (r : Result T E)
     → (between : SteadyClock R) × (batch : Batch) × (time : ℕ)
     × AfterMarks (λ ended. IsRound old.clock between StopsThere NeverGoesBack old.ports ended old.asked new.asked old.core new.core new.ports.ethernet.moment batch
-    × SleepsAfter (IsDue (deadlines new.asked new.looked new.responses new.written new.core new.warnings (happened new.totals new.core new.ports) new.ports.servers.servers.items)) (is_any_marked (marks_in ended)) between new.clock StopsThere time batch.fault batch.quiet
+    × SleepsAfter (IsDue (deadlines new.asked new.looked new.responses new.written new.core new.warnings new.client_log (happened new.totals new.core new.ports) new.ports.servers.servers.items)) (is_any_marked (marks_in ended)) between new.clock StopsThere time batch.fault batch.quiet
     × OnOk r (AreMarked (numbers_come new.ready) (marks_in ended) (marks_in new.ports))) new.ports
     × (new.ready.trace.items ≡ old.ready.trace.items ++ Waited time ∷ [])
     → is_err r ≡ new.ready.failed → new.ports.servers.moment ≡ new.ports.ethernet.moment → ways_in new.ports ≡ ways_in old.ports

@@ -14,6 +14,7 @@ use Rattle.ipx_sockets.specs.declared.sockets.UdpSockets.{UdpSockets}
 use Rattle.ipxnet_server.specs.ServerHears.{ServerView}
 use Rattle.ipx_site.specs.IdleTime.{Deadlines, EventCounts, IsDue, deadlines}
 use Rattle.ipx_sockets.specs.Moments.{IsTimeUntilDue}
+use Rattle.ipx_site.specs.declared.client_log.ClientLog.{ClientLog}
 use Rattle.ipx_site.specs.declared.warnings.Warnings.{Warnings}
 use Rattle.ipx_site.specs.SiteCore.{SiteCore, SiteGives, SiteHears, SiteHearOutOfMemory, SiteNextOutOfMemory}
 use Rattle.ipx_site.specs.PortCalls.{FailsToReceiveAt, FailsToSendBy, ReceivesAtPort, SendsByPort}
@@ -78,15 +79,16 @@ sleeps_then a b marked clock clock' stops asked fault quiet e h =
 
 -- deadlines, part by part
 pub same_deadlines : (asked asked' : ℕ) (looked looked' : Option ℕ) (responses responses' : ℕ) (written written' : Option ℕ)
-    (core core' : SiteCore) (warnings warnings' : Warnings) (count count' : EventCounts) (servers servers' : List ServerView)
-    → asked' ≡ asked → looked' ≡ looked → responses' ≡ responses → written' ≡ written → core' ≡ core → warnings' ≡ warnings → count' ≡ count → servers' ≡ servers
-    → deadlines asked' looked' responses' written' core' warnings' count' servers' ≡ deadlines asked looked responses written core warnings count servers
-same_deadlines asked asked' looked looked' responses responses' written written' core core' warnings warnings' count count' servers servers' a l r w c t n s =
-    ap (λ it. deadlines it looked' responses' written' core' warnings' count' servers') a
-    ∙ ap (λ it. deadlines asked it responses' written' core' warnings' count' servers') l
-    ∙ ap (λ it. deadlines asked looked it written' core' warnings' count' servers') r
-    ∙ ap (λ it. deadlines asked looked responses it core' warnings' count' servers') w
-    ∙ ap (λ it. deadlines asked looked responses written it warnings' count' servers') c
-    ∙ ap (λ it. deadlines asked looked responses written core it count' servers') t
-    ∙ ap (λ it. deadlines asked looked responses written core warnings it servers') n
-    ∙ ap (λ it. deadlines asked looked responses written core warnings count it) s
+    (core core' : SiteCore) (warnings warnings' : Warnings) (clients clients' : ClientLog) (count count' : EventCounts) (servers servers' : List ServerView)
+    → asked' ≡ asked → looked' ≡ looked → responses' ≡ responses → written' ≡ written → core' ≡ core → warnings' ≡ warnings → clients' ≡ clients → count' ≡ count → servers' ≡ servers
+    → deadlines asked' looked' responses' written' core' warnings' clients' count' servers' ≡ deadlines asked looked responses written core warnings clients count servers
+same_deadlines asked asked' looked looked' responses responses' written written' core core' warnings warnings' clients clients' count count' servers servers' a l r w c t o n s =
+    ap (λ it. deadlines it looked' responses' written' core' warnings' clients' count' servers') a
+    ∙ ap (λ it. deadlines asked it responses' written' core' warnings' clients' count' servers') l
+    ∙ ap (λ it. deadlines asked looked it written' core' warnings' clients' count' servers') r
+    ∙ ap (λ it. deadlines asked looked responses it core' warnings' clients' count' servers') w
+    ∙ ap (λ it. deadlines asked looked responses written it warnings' clients' count' servers') c
+    ∙ ap (λ it. deadlines asked looked responses written core it clients' count' servers') t
+    ∙ ap (λ it. deadlines asked looked responses written core warnings it count' servers') o
+    ∙ ap (λ it. deadlines asked looked responses written core warnings clients it servers') n
+    ∙ ap (λ it. deadlines asked looked responses written core warnings clients count it) s

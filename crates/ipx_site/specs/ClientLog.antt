@@ -1,6 +1,6 @@
 -- What a router logs of the clients that connect to its ipxnet ports and of those that are gone. Defined by
 -- this project.
-use Rattle.std.specs.Prelude.{ℕ, ◌+◌, ◌-◌, List, [], ◌∷◌, ◌++◌, Bool, not, ◌==◌, ◌&&◌, filter, length, map, slice_get, take, Option, Some, None}
+use Rattle.std.specs.Prelude.{◌≡◌, ℕ, ◌+◌, ◌-◌, List, [], ◌∷◌, ◌++◌, Bool, not, ◌==◌, ◌&&◌, filter, length, map, slice_get, take, Option, Some, None}
 use Rattle.std.specs.HashSet.{HashSet, contains_by}
 use Rattle.std.specs.List.{list_any}
 use Rattle.std.specs.Net.Addr.{ipv4_octets}
@@ -9,7 +9,10 @@ use Rattle.std.specs.Str.{bytes_eq}
 use Rattle.ipxnet_server.specs.declared.clients.Client.{Client}
 use Rattle.ipxnet_server.specs.ServerClients.{are_one_place}
 use Rattle.ipxnet_server.specs.ServerHears.{ServerView}
+use Rattle.ipx_sockets.specs.Moments.{HasPassed}
+use Rattle.ipx_site.specs.IpxnetTotals.{client_count_in}
 use Rattle.ipx_site.specs.declared.client_log.ClientKey.{ClientKey}
+use Rattle.ipx_site.specs.declared.client_log.ClientLog.{ClientLog}
 use Rattle.ipx_site.specs.declared.client_log.PortClient.{PortClient}
 use Rattle.ipx_site.specs.declared.router_ports.PortIndex.{PortIndex}
 use Rattle.ipx_site.specs.declared.router_ports.PortIndex.TheVariants.{Datagrams, Ethernet, IpxnetServer}
@@ -64,6 +67,12 @@ abbrev pub all_clients : ℕ → List PortIndex → List ServerView → List Por
 all_clients port [] servers = []
 all_clients port (s ∷ port_indices) servers =
     port_index_clients port s servers ++ all_clients (port + 1) port_indices servers
+
+-- a look at the clients is due: there are more or fewer of them than were logged, and a second has passed since
+-- the last look
+abbrev pub IsClientLookDue : ClientLog → List ServerView → ℕ → Type 0
+IsClientLookDue log servers now =
+    (length log.logged.items ≡ client_count_in servers → ⊥) × HasPassed 1000 log.looked now
 
 -- ---- definitions for private functions
 

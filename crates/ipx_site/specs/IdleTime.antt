@@ -18,6 +18,8 @@ use Rattle.ipx_carrier.specs.Counting.{counted}
 use Rattle.ipx_carrier.specs.PriorityRouterCore.{PriorityQueues}
 use Rattle.ipx_sockets.specs.Moments.{HasPassed, IsOneDue}
 use Rattle.ipx_site.specs.SiteCore.{SiteCore}
+use Rattle.ipx_site.specs.ClientLog.{IsClientLookDue}
+use Rattle.ipx_site.specs.declared.client_log.ClientLog.{ClientLog}
 use Rattle.ipx_site.specs.EthernetTotals.{encapsulated_otherwise_in, unframed_in}
 use Rattle.ipx_site.specs.IpxnetTotals.{busy_in, full_in, full_of_address_in, rate_limited_in}
 
@@ -126,18 +128,21 @@ pub record Deadlines : Type 0 where
   pub written : Option ℕ
   pub core : SiteCore
   pub warnings : Warnings
+  -- which clients it logged, and when it last looked at them
+  pub clients : ClientLog
   pub count : EventCounts
   -- the servers of its ipxnet ports, with their clients
   pub servers : List ServerView
 
-abbrev pub deadlines : ℕ → Option ℕ → ℕ → Option ℕ → SiteCore → Warnings → EventCounts → List ServerView → Deadlines
-deadlines asked looked responses written core warnings count servers = record {
+abbrev pub deadlines : ℕ → Option ℕ → ℕ → Option ℕ → SiteCore → Warnings → ClientLog → EventCounts → List ServerView → Deadlines
+deadlines asked looked responses written core warnings clients count servers = record {
   asked = asked;
   looked = looked;
   responses = responses;
   written = written;
   core = core;
   warnings = warnings;
+  clients = clients;
   count = count;
   servers = servers;
 }
@@ -152,7 +157,7 @@ abbrev pub IsToSend : PriorityQueues → Type 0
 IsToSend q = 0 < length q.forwarded + length q.own
 
 -- there is something to do: send what waits, repeat requests, advertise to neighbours, hear static entries,
--- ping a silent client, look, write the metrics, or log a line
+-- ping a silent client, look at what it knows, write the metrics, log a line, or look at its clients
 abbrev pub IsDue : Deadlines → ℕ → Type 0
 IsDue a now = IsToSend a.core.core.core.core.queues
     ⊎ IsToAskAgain a.asked now
@@ -162,5 +167,6 @@ IsDue a now = IsToSend a.core.core.core.core.queues
     ⊎ HasPassed (look_after a.core.core.core.core.outcomes.heard a.responses) a.looked now
     ⊎ HasPassed 10000 a.written now
     ⊎ IsLineDue a.warnings a.count now
+    ⊎ IsClientLookDue a.clients a.servers now
 
 -- ---- definitions for private functions

@@ -1,7 +1,11 @@
 -- Totals over the servers of a router's ports for ipxnet. Defined by this project.
-use Rattle.std.specs.Prelude.{ℕ, List, sum_by}
+use Rattle.std.specs.Prelude.{ℕ, List, length, sum_by}
 use Rattle.ipx_carrier.specs.Counting.{counted}
 use Rattle.ipxnet_server.specs.ServerHears.{ServerView}
+
+-- how many clients all ports have
+abbrev pub client_count_in : List ServerView → ℕ
+client_count_in servers = counted (sum_by (λ s. length s.clients) servers)
 
 -- the datagrams of new players that were dropped because all places of their port were taken
 abbrev pub full_in : List ServerView → ℕ

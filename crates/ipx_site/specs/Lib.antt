@@ -33,3 +33,4 @@ pub mod FrameFamilies
 pub mod IpxnetFamilies
 pub mod KindMetrics
 pub mod MetricsPage
+pub mod MetricsFile

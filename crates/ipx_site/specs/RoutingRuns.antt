@@ -62,7 +62,7 @@ pub record TakesRound {R : Type 0} (old new : RunningRouter R) : Type 0 where
       IsRound old.clock between StopsThere NeverGoesBack old.ports ended old.asked new.asked old.core new.core
       new.ports.ethernet.moment batch
       × SleepsAfter (IsDue (deadlines new.asked new.looked new.responses new.written new.core
-      new.warnings (happened new.totals new.core new.ports) new.ports.servers.servers.items)) (is_any_marked (marks_in ended))
+      new.warnings new.client_log (happened new.totals new.core new.ports) new.ports.servers.servers.items)) (is_any_marked (marks_in ended))
       between new.clock StopsThere time batch.fault batch.quiet
       × (new.ready.failed ≡ false → AreMarked (numbers_come new.ready) (marks_in ended) (marks_in new.ports)))
       new.ports

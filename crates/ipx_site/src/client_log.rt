@@ -1,15 +1,16 @@
 //! Logs the clients that connect to a router's ipxnet ports, those that time out, and the IP
 //! addresses from which none does.
 
-ghost use Rattle.std.specs.Prelude.{◌≡◌, ◌≤◌, ◌+◌, ◌++◌, [], IfOk, None, OnErr, OnOk, Some, length};
-ghost use Rattle.ipx_site.specs.ClientLog.{all_clients, clients_come, clients_gone, clients_logged, clients_without};
+ghost use Rattle.std.specs.Prelude.{◌≡◌, ◌≤◌, ◌<◌, ◌↔◌, ◌+◌, ◌^◌, ◌++◌, [], ℕ, IfOk, None, OnErr, OnOk, Some, length};
+ghost use Rattle.ipx_site.specs.ClientLog.{IsClientLookDue, all_clients, clients_come, clients_gone, clients_logged, clients_without};
 ghost use Rattle.ipx_site.specs.ClientLog.{client_key, has_client_key, is_listed_client, max_client_lines, port_clients, port_index_clients};
 ghost use Rattle.ipx_site.specs.RepeatLog.{repeats_of_ports};
-ghost use Rattle.ipx_sockets.specs.Moments.{AreLoggedIfDue, HasPassed};
+ghost use Rattle.ipx_sockets.specs.Moments.{AreLoggedIfDue, HasPassed, IsReached};
 
+use crate::ipxnet_totals::client_count;
 use crate::repeat_log::RepeatLog;
 use crate::router_ports::{PortIndex, UdpRouterPorts};
-use ipx_sockets::is_over;
+use ipx_sockets::{end_of, is_over};
 use ipx_wire::Node;
 use ipxnet_server::{Client, IpxnetServer};
 use log::{Log, info};
@@ -234,6 +235,18 @@ impl ClientLog {
             looked: None,
             repeats: RepeatLog::new(),
         }
+    }
+
+    /// The time of its next look: a second after the last one, if these servers have more or fewer
+    /// clients than it logged. It is None if they do not, or if that time exceeds a u64.
+    pub(crate) fn next(&self, servers: &[IpxnetServer]) -> Option<u64>
+        ensures { (t : ℕ) → t < 2 ^ 64
+            → IsReached result t ↔ IsClientLookDue self.now servers.now t }
+    {
+        if self.logged.len() as u64 == client_count(servers) {
+            return None;
+        }
+        end_of(self.looked, PERIOD)
     }
 
     /// The changes to log when the clients `there` are connected. Each client that was logged but

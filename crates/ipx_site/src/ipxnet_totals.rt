@@ -1,9 +1,20 @@
 //! Totals over the servers of a router's ports for ipxnet.
 
 ghost use Rattle.std.specs.Prelude.{◌≡◌};
-ghost use Rattle.ipx_site.specs.IpxnetTotals.{busy_in, full_in, full_of_address_in, rate_limited_in};
+ghost use Rattle.ipx_site.specs.IpxnetTotals.{busy_in, client_count_in, full_in, full_of_address_in, rate_limited_in};
 
 use ipxnet_server::{IpxnetServer, LimitedFlood};
+
+/// The number of clients. Saturates at the greatest u64.
+pub fn client_count(servers: &[IpxnetServer]) -> u64
+    ensures { result ≡ client_count_in servers.now }
+{
+    let mut total: u64 = 0;
+    for server in servers {
+        total = total.saturating_add(server.clients().len() as u64);
+    }
+    total
+}
 
 /// The number of datagrams of new players that were dropped because all places of their port were
 /// taken. Saturates at the greatest u64.

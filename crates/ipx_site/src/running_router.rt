@@ -1,12 +1,14 @@
 //! A router with its sockets, and its work besides the turns of its run.
 
-ghost use Rattle.std.specs.Prelude.{◌≡◌, ◌↔◌, ◌++◌, ◌∷◌, [], ℕ, Bool, List, IfOk, OnOk, Some, is_err, is_ok, length, map, string_bytes};
+ghost use Rattle.std.specs.Prelude.{◌≡◌, ◌↔◌, ◌⊎◌, ◌<◌, ◌^◌, ◌++◌, ◌∷◌, [], ℕ, Bool, List, IfOk, OnOk, Some, is_err, is_ok, length, map, string_bytes};
 ghost use Rattle.ipx_carrier.specs.ReadySet.{AreMarked, is_any_marked};
 ghost use Rattle.ipx_carrier.specs.Turns.{peers_of};
+ghost use Rattle.ipx_site.specs.ClientLog.{IsClientLookDue};
 ghost use Rattle.ipx_site.specs.DropLog.{AreDropsLogged};
 ghost use Rattle.ipx_sockets.specs.Moments.{IsTimeUntilDue, AreLoggedIfDue, IsReached};
-ghost use Rattle.ipx_site.specs.IdleTime.{IsDue, IsToSend, deadlines, counts_to_log, happened, happened_in, look_after};
+ghost use Rattle.ipx_site.specs.IdleTime.{IsDue, IsLineDue, IsToSend, deadlines, counts_to_log, happened, happened_in, look_after};
 ghost use Rattle.ipx_site.specs.KnownFile.{TellsKnown};
+ghost use Rattle.ipx_site.specs.MetricsFile.{IsMetricsFile};
 ghost use Rattle.ipx_sockets.specs.PollEvents.{Waited};
 ghost use Rattle.ipx_sockets.specs.AccessLists.{access_by};
 ghost use Rattle.ipx_site.specs.PortsView.{ways_in};
@@ -152,7 +154,10 @@ impl<'a, R: SystemClock> RunningRouter<'a, R> {
     }
 
     /// The text of its metrics file.
-    fn metrics_text(&self, alloc: Global, now: u64) -> Result<String, AllocError> {
+    fn metrics_text(&self, alloc: Global, now: u64) -> Result<String, AllocError>
+        ensures { IfOk result (λ t. IsMetricsFile self.now.totals self.now.core self.now.ports
+            self.now.route_changes now (string_bytes t)) }
+    {
         let core = self.core.core().core().core();
         let ethernet = ethernet_metrics(alloc, &self.ports)?;
         let ipxnet = ipxnet_metrics(alloc, &self.ports)?;
@@ -343,11 +348,23 @@ impl<'a, R: SystemClock> RunningRouter<'a, R> {
         }
     }
 
-    /// How long there is nothing to do unless something comes, in milliseconds. Lines about clients
-    /// and drops are logged when it does something else, within ten seconds.
+    /// The time at which it is to log a warning, or to look at its clients. It looks if there are more
+    /// or fewer than it logged.
+    fn next_line(&self, now: u64) -> Option<u64>
+        ensures { (t : ℕ) → t < 2 ^ 64 → IsReached result t ↔ (IsLineDue self.now.warnings
+            (happened self.now.totals self.now.core self.now.ports) t
+            ⊎ IsClientLookDue self.now.client_log self.now.ports.servers.servers.items t) }
+    {
+        let warnings = self.warnings.next(&self.metrics(now));
+        let clients = self.client_log.next(self.ports.servers().servers());
+        sooner(warnings, clients)
+    }
+
+    /// How long there is nothing to do unless something comes, in milliseconds. Lines about drops are
+    /// logged when it does something else, within ten seconds.
     fn time_until_due(&self, now: u64) -> u64
         ensures { IsTimeUntilDue (IsDue (deadlines self.now.asked self.now.looked self.now.responses
-            self.now.written self.now.core self.now.warnings
+            self.now.written self.now.core self.now.warnings self.now.client_log
             (happened self.now.totals self.now.core self.now.ports)
             self.now.ports.servers.servers.items)) now result }
     {
@@ -356,10 +373,7 @@ impl<'a, R: SystemClock> RunningRouter<'a, R> {
         let words = self.core.core().core().next_refresh();
         let pings = self.ports.servers().next_pings();
         let look = end_of(self.looked, self.look_period());
-        let metrics = sooner(
-            end_of(self.written, PERIOD),
-            self.warnings.next(&self.metrics(now)),
-        );
+        let metrics = sooner(end_of(self.written, PERIOD), self.next_line(now));
         let due = sooner(packets, sooner(words, sooner(pings, sooner(look, metrics))));
         time_to(sooner(self.sending_time(), due), now)
     }
@@ -404,7 +418,7 @@ impl<'a, R: SystemClock> RunningRouter<'a, R> {
     /// is still marked then, it keeps failing, and is tried again after a pause.
     fn rest(&mut self, batch: Batch) -> u64
         ensures rests { SleepsAfter (IsDue (deadlines self.old.asked self.old.looked self.old.responses
-            self.old.written self.old.core self.old.warnings
+            self.old.written self.old.core self.old.warnings self.old.client_log
             (happened self.old.totals self.old.core self.old.ports)
             self.old.ports.servers.servers.items))
             (is_any_marked (marks_in self.old.ports))
@@ -414,6 +428,7 @@ impl<'a, R: SystemClock> RunningRouter<'a, R> {
         ensures ready { self.new.ready ≡ self.old.ready }
         ensures totals { self.new.totals ≡ self.old.totals }
         ensures warnings { self.new.warnings ≡ self.old.warnings }
+        ensures client_log { self.new.client_log ≡ self.old.client_log }
         ensures asked { self.new.asked ≡ self.old.asked }
         ensures looked { (self.new.looked ≡ self.old.looked)
             × (self.new.responses ≡ self.old.responses) × (self.new.written ≡ self.old.written) }
@@ -444,7 +459,7 @@ impl<'a, R: SystemClock> RunningRouter<'a, R> {
             self.old.ports ended self.old.asked self.new.asked self.old.core self.new.core
             self.new.ports.ethernet.moment batch
             × SleepsAfter (IsDue (deadlines self.new.asked self.new.looked self.new.responses
-            self.new.written self.new.core self.new.warnings
+            self.new.written self.new.core self.new.warnings self.new.client_log
             (happened self.new.totals self.new.core self.new.ports)
             self.new.ports.servers.servers.items))
             (is_any_marked (marks_in ended))

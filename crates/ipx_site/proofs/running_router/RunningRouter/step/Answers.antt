@@ -18,8 +18,8 @@ returns-in_err-wait-clause-core g c =
     let b = c.round-batch.result in
     let waits_once : c.wait.new.self.trace.items ≡ old.ready.trace.items ++ Waited c.rest-time.result ∷ [] =
     c.wait.ensures.trace ∙ ap (λ it. it.trace.items ++ Waited c.rest-time.result ∷ []) (e.ready ∙ c.round-batch.ensures.ready) in
-    let same = same_deadlines s.asked t.asked s.looked t.looked s.responses t.responses s.written t.written s.core t.core s.warnings t.warnings
-    (happened s.totals s.core s.ports) (happened t.totals t.core t.ports) s.ports.servers.servers.items t.ports.servers.servers.items e.asked e.looked.0 e.looked.1 e.looked.2 e.core e.warnings
+    let same = same_deadlines s.asked t.asked s.looked t.looked s.responses t.responses s.written t.written s.core t.core s.warnings t.warnings s.client_log t.client_log
+    (happened s.totals s.core s.ports) (happened t.totals t.core t.ports) s.ports.servers.servers.items t.ports.servers.servers.items e.asked e.looked.0 e.looked.1 e.looked.2 e.core e.warnings e.client_log
     (ap (λ it. happened it t.core t.ports) e.totals ∙ ap (λ it. happened s.totals it t.ports) e.core ∙ ap (λ it. happened s.totals s.core it) e.ports) (ap (λ it. it.servers.servers.items) e.ports) in (
       s.clock,
       b,
@@ -30,10 +30,10 @@ returns-in_err-wait-clause-core g c =
           subst (λ it. IsRound old.clock s.clock StopsThere NeverGoesBack old.ports it old.asked t.asked old.core t.core t.ports.ethernet.moment b) (sym e.ports)
               (round_then StopsThere NeverGoesBack old.ports s.ports old.clock s.clock old.asked s.asked t.asked
               old.core s.core t.core s.ports.ethernet.moment t.ports.ethernet.moment b e.asked e.core (ap (λ it. it.ethernet.moment) e.ports) c.round-batch.ensures.core),
-          subst (λ it. SleepsAfter (IsDue (deadlines t.asked t.looked t.responses t.written t.core t.warnings (happened t.totals t.core t.ports) t.ports.servers.servers.items))
+          subst (λ it. SleepsAfter (IsDue (deadlines t.asked t.looked t.responses t.written t.core t.warnings t.client_log (happened t.totals t.core t.ports) t.ports.servers.servers.items))
               (is_any_marked (marks_in it)) s.clock t.clock StopsThere c.rest-time.result b.fault b.quiet) (sym e.ports)
-              (sleeps_then (deadlines s.asked s.looked s.responses s.written s.core s.warnings (happened s.totals s.core s.ports) s.ports.servers.servers.items)
-              (deadlines t.asked t.looked t.responses t.written t.core t.warnings (happened t.totals t.core t.ports) t.ports.servers.servers.items) (is_any_marked (marks_in s.ports)) s.clock t.clock StopsThere
+              (sleeps_then (deadlines s.asked s.looked s.responses s.written s.core s.warnings s.client_log (happened s.totals s.core s.ports) s.ports.servers.servers.items)
+              (deadlines t.asked t.looked t.responses t.written t.core t.warnings t.client_log (happened t.totals t.core t.ports) t.ports.servers.servers.items) (is_any_marked (marks_in s.ports)) s.clock t.clock StopsThere
               c.rest-time.result b.fault b.quiet same e.rests),
           search rules,
         ),
@@ -55,8 +55,8 @@ returns-clause-core g c =
     ∙ ap (λ it. happened s.totals s.core it) e.ports in
     let waits_once : c.wait.new.self.trace.items ≡ old.ready.trace.items ++ Waited c.rest-time.result ∷ [] =
     c.wait.ensures.trace ∙ ap (λ it. it.trace.items ++ Waited c.rest-time.result ∷ []) (e.ready ∙ c.round-batch.ensures.ready) in
-    let same = same_deadlines s.asked t.asked s.looked t.looked s.responses t.responses s.written t.written s.core t.core s.warnings t.warnings
-    (happened s.totals s.core s.ports) (happened t.totals t.core ports) s.ports.servers.servers.items ports.servers.servers.items e.asked e.looked.0 e.looked.1 e.looked.2 e.core e.warnings count
+    let same = same_deadlines s.asked t.asked s.looked t.looked s.responses t.responses s.written t.written s.core t.core s.warnings t.warnings s.client_log t.client_log
+    (happened s.totals s.core s.ports) (happened t.totals t.core ports) s.ports.servers.servers.items ports.servers.servers.items e.asked e.looked.0 e.looked.1 e.looked.2 e.core e.warnings e.client_log count
     (ap (λ l. l.servers.items) m.servers ∙ ap (λ it. it.servers.servers.items) e.ports) in (
       s.clock,
       b,
@@ -68,10 +68,10 @@ returns-clause-core g c =
               (round_then StopsThere NeverGoesBack old.ports s.ports old.clock s.clock old.asked s.asked t.asked
               old.core s.core t.core s.ports.ethernet.moment ports.ethernet.moment b e.asked e.core
               (ap (λ it. it.moment) m.ethernet ∙ ap (λ it. it.ethernet.moment) e.ports) c.round-batch.ensures.core),
-          subst (λ it. SleepsAfter (IsDue (deadlines t.asked t.looked t.responses t.written t.core t.warnings (happened t.totals t.core ports) ports.servers.servers.items))
+          subst (λ it. SleepsAfter (IsDue (deadlines t.asked t.looked t.responses t.written t.core t.warnings t.client_log (happened t.totals t.core ports) ports.servers.servers.items))
               (is_any_marked (marks_in it)) s.clock t.clock StopsThere c.rest-time.result b.fault b.quiet) (sym e.ports)
-              (sleeps_then (deadlines s.asked s.looked s.responses s.written s.core s.warnings (happened s.totals s.core s.ports) s.ports.servers.servers.items)
-              (deadlines t.asked t.looked t.responses t.written t.core t.warnings (happened t.totals t.core ports) ports.servers.servers.items) (is_any_marked (marks_in s.ports)) s.clock t.clock StopsThere
+              (sleeps_then (deadlines s.asked s.looked s.responses s.written s.core s.warnings s.client_log (happened s.totals s.core s.ports) s.ports.servers.servers.items)
+              (deadlines t.asked t.looked t.responses t.written t.core t.warnings t.client_log (happened t.totals t.core ports) ports.servers.servers.items) (is_any_marked (marks_in s.ports)) s.clock t.clock StopsThere
               c.rest-time.result b.fault b.quiet same e.rests),
           c.mark_ready.ensures.marks,
         ),
