@@ -70,6 +70,33 @@ def link_kit(at, rt):
     return f"{at}/bin"
 
 
+# How `rt ci` shares the processors. Its own way gives a crate's proof as many processes as are idle when it begins. A crate keeps
+# that number, so that one that began beside others is proved by one process, with the other processors idle at its end. And a
+# crate begins only if a high guess of its memory is free. Here there are more processes than processors, and the crate for which
+# the longest chain of others waits gets up to four of them. These are the texts of the kits that are known, and what is there instead.
+SHARES = (
+    # kit 13f
+    (("lanes, memory, behind = fixed or processors(),", "lanes, memory, behind = fixed or 2 * processors(),"),
+     ("min(4, idle // others, 1 + int((room / needs - 1) / 0.6)) if not fixed",
+      "min(4, idle if key in proofs and tasks[key][1] else idle // others, 1 + int((room / needs - 1) / 0.6)) if not fixed")),
+    # kit 13b
+    (("lanes, memory, behind = fixed or processors(), 0.85 * free(),", f"lanes, memory, behind = fixed or max(1, min(processors() + 2, free() // {ONE_CHECK})), 10 ** 12,"),
+     ("min(4, idle // (len(ready) - at), 1 + int((room / needs - 1) / 0.6))",
+      "min(4, idle if behind[key] >= max(behind[it] for it in [key, *left, *(one for one, _, _ in running.values())])"
+      " else idle // (len(ready) - at))")),
+)
+
+
+def sharing(text):
+    """The text of `rt` with another way to share processors, or the same text if its own way is none of these."""
+    for replacements in SHARES:
+        if all(text.count(theirs) == 1 for theirs, _ in replacements):
+            for theirs, ours in replacements:
+                text = text.replace(theirs, ours)
+            return text
+    return text
+
+
 def rt_text():
     """The text of `rt`."""
     with open(command() or sys.exit("rt is not on the PATH"), encoding="utf-8") as it:
