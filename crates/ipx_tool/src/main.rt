@@ -5,11 +5,11 @@ mod build;
 mod commands;
 mod help;
 mod texts;
+mod tips;
 mod words;
 
 use build::{COMMIT, TOOLCHAIN};
 use clap::error::ErrorKind;
-use commands::{CHECK, IPXNET, SEND, UDP};
 use ipx_config::{Target, check_site};
 use ipx_host::{check_host, do_listen, do_send};
 use ipx_inspect::{do_check, do_hop, do_show, do_show_frames, tell_no_memory};
@@ -21,6 +21,7 @@ use ipx_wire::Node;
 use std::io::IsTerminal;
 use std::process::ExitCode;
 use std::{env, io};
+use tips::tip_for;
 use words::{Task, fault_of, task_of};
 
 /// The number of requests of a ping if none is given.
@@ -109,38 +110,6 @@ fn do_task(rt: &HostRuntime, task: Task<'_>) -> Result<u8, u8> {
     }
 }
 
-/// Whether a word has only digits, as a port.
-fn is_number(word: &str) -> bool {
-    word.bytes().all(|byte| byte.is_ascii_digit())
-}
-
-const PORT_TIP: &str = "tip: write --port before a port, such as --port 2130";
-
-/// What helps with an argument that some try.
-fn tip_for(words: &[String]) -> Option<&'static str> {
-    match words {
-        [_, command, word] if command.as_str() == CHECK && !word.as_bytes().starts_with(b"-") => {
-            Some(
-                "tip: ipx route --check FILE, or ipx listen --check FILE, checks a configuration file",
-            )
-        }
-        [_, command, word] if is_number(word) && matches!(command.as_str(), IPXNET | UDP) => {
-            Some(PORT_TIP)
-        }
-        [_, command, flag, _] if flag.as_str() == "-p" && command.as_str() == IPXNET => {
-            Some(PORT_TIP)
-        }
-        [_, command, word] if command.as_str() == IPXNET && word.ends_with(".toml") => {
-            Some("tip: ipx route FILE starts the router of a configuration file")
-        }
-        [_, command, _, _, _, _, word]
-            if command.as_str() == SEND && !word.as_bytes().starts_with(b"-") => {
-            Some("tip: ipx send reads standard input: write < FILE after SOCKET")
-        }
-        _ => None,
-    }
-}
-
 fn tell_tip(rt: &HostRuntime, words: &[String]) {
     if let Some(tip) = tip_for(words) {
         let _ = eprintln!(rt; "{tip}");
@@ -155,7 +124,10 @@ fn tell_usage(rt: &HostRuntime, words: &[String]) -> u8 {
         return tell_no_memory(&mut io::writer(rt));
     }
     let _ = eprint!(rt; "{error}");
-    if error.kind() == ErrorKind::UnknownArgument {
+    if matches!(
+        error.kind(),
+        ErrorKind::UnknownArgument | ErrorKind::InvalidSubcommand
+    ) {
         tell_tip(rt, words);
     }
     let is_verbose = words.iter().any(|word| word.as_str() == "--verbose");
