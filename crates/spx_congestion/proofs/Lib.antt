@@ -1,3 +1,4 @@
+pub mod Capped
 pub mod Counting
 pub mod Progress
 pub mod Tended

@@ -9,7 +9,7 @@ use Rattle.spx_congestion.specs.declared.sent_kind.SentKind.{SentKind}
 use Rattle.spx_congestion.specs.declared.sent_kind.SentKind.TheVariants as Gaves
 
 -- the credit grows by a 256th of a unit each millisecond at least, up to ten units
-one_at_least : (n : ℕ) → 1 ≤ max n 1
+one_at_least : (n : ℕ) → 1 ≤ min (max n 1) 8192
 one_at_least n = omega arith
 
 grown_by : (rate credit tick since gone : ℕ) → 1 ≤ rate → min (tick - since) 2560 ≤ credit

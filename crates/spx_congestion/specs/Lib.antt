@@ -4,5 +4,6 @@ pub mod Hearing
 pub mod Measured
 pub mod Pacing
 pub mod Saving
+pub mod Capping
 pub mod Timeouts
 pub mod Waiting

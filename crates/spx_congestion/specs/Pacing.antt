@@ -88,10 +88,15 @@ flight p = (p.out - p.left) + p.in_flight
 abbrev pub spare : PacerView → ℕ
 spare p = p.window / 256 - flight p
 
+-- the most by which credit grows in a millisecond: 32 units
+abbrev pub most_rate : ℕ
+most_rate = 8192
+
 -- how much the credit grows in a millisecond, with this window and this round trip: twice the window a round
--- trip in slow start, otherwise 5/4 of it, and a 256th of a unit at least
+-- trip in slow start, otherwise 5/4 of it. It is a 256th of a unit at least, and 32 units at most
 abbrev pub rate_of : Bool → ℕ → ℕ → ℕ
-rate_of starting window trip = max ((if starting then window * 2 else window * 5 / 4) / max trip 1) 1
+rate_of starting window trip =
+    min (max ((if starting then window * 2 else window * 5 / 4) / max trip 1) 1) most_rate
 
 -- the credit after it has grown until now, at a rate per millisecond: at most four milliseconds' worth, or
 -- ten units

@@ -1,5 +1,6 @@
 //! Theorems about pacers, from their contracts alone.
 
+ghost use Rattle.spx_congestion.specs.Capping.{UnitsAreCapped};
 ghost use Rattle.spx_congestion.specs.Saving.{PlansGoOn};
 ghost use Rattle.spx_congestion.specs.Timeouts.{GivesUpAfterTen};
 ghost use Rattle.spx_congestion.specs.Waiting.{NothingElsePostpones, TimeoutsLast};
@@ -34,4 +35,10 @@ pub fn waits_are_bounded()
 /// So ten timeouts in a row last two seconds at least.
 pub fn timeouts_last()
     ensures { TimeoutsLast }
+{}
+
+/// Within any 1,000 ms a pacer lets go fewer than 32,767 units, first or again, whatever it hears
+/// and however often it plans. So of the numbers of 16 bits less than half are sent in a second.
+pub fn units_are_capped()
+    ensures { UnitsAreCapped }
 {}

@@ -27,3 +27,4 @@ mod window;
 pub use pacer::Pacer;
 pub use plan::Plan;
 pub use sent_kind::SentKind;
+pub use window::MOST_UNITS_EACH_SECOND;

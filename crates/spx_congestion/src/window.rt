@@ -1,7 +1,7 @@
 //! The window: how many units may be in flight, in 256ths of a unit.
 
-ghost use Rattle.std.specs.Prelude.{◌≡◌, ◌<◌, ◌≤◌, ◌^◌, nat_lt};
-ghost use Rattle.spx_congestion.specs.Pacing.{rate_of};
+ghost use Rattle.std.specs.Prelude.{◌≡◌, ◌≤◌, nat_lt};
+ghost use Rattle.spx_congestion.specs.Pacing.{most_rate, rate_of};
 
 use crate::cubic::{grows_in, window_at};
 use crate::round_trip::RoundTrip;
@@ -19,6 +19,15 @@ const SMALL: u64 = 256 * UNIT;
 const LEAST: u64 = 4 * UNIT;
 
 const MAX: u64 = 8192 * UNIT;
+
+/// How many units a pacer lets go in a second at most, some 17 MB. With the credit of a few
+/// milliseconds that was saved before, fewer than 32,767 go within any 1,000 ms. So a packet that
+/// arrives within a second of its sending is fewer than 32,768 numbers old, and its number, of 16
+/// bits, is not taken for a later one.
+pub const MOST_UNITS_EACH_SECOND: u64 = 32_000;
+
+/// The same for a millisecond, in 256ths of a unit.
+const MOST_RATE: u64 = MOST_UNITS_EACH_SECOND * UNIT / 1000;
 
 /// When the cubic growth of the window began, and after how many milliseconds the window is back at
 /// the size before the last decrease.
@@ -219,18 +228,18 @@ impl Window {
     }
 
     /// By how much credit grows in a millisecond, in 256ths of a unit. In slow start it is twice
-    /// what a round trip carries, otherwise five quarters of it.
+    /// what a round trip carries, otherwise five quarters of it, and never more than the most.
     pub fn rate(&self, trip: u64) -> u64
         ensures value { result
             ≡ rate_of (nat_lt self.now.size self.now.threshold) self.now.size trip }
-        ensures bound { result < 2 ^ 62 }
+        ensures bound { result ≤ most_rate }
     {
         let ahead = if self.is_starting() {
             self.size.saturating_mul(2)
         } else {
             self.size.saturating_mul(5) / 4
         };
-        (ahead / trip.max(1)).max(1)
+        (ahead / trip.max(1)).max(1).min(MOST_RATE)
     }
 }
 

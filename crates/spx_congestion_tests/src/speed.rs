@@ -3,6 +3,7 @@
 //! comparison. None of this is proved.
 
 use crate::line::{Course, Terms};
+use spx_congestion::MOST_UNITS_EACH_SECOND;
 use std::process::Abort;
 use std::test::Fail;
 
@@ -94,6 +95,21 @@ fn one_of_ten_lost(rt: HostRuntime) -> Result<(), Fail> {
         (line(20_000, 50, 0, 100), 60, 45_600, 150),
     ] {
         keeps(&rt, rt.alloc(), row)?;
+    }
+    Ok(())
+}
+
+/// Lines of 1 and 10 Gbit/s bring as much as a pacer lets go, and no more: 32,000 units of 534 bytes
+/// a second. The bound is 0.95 of that.
+#[test]
+fn lines_faster_than_the_most(rt: HostRuntime) -> Result<(), Fail> {
+    let most = MOST_UNITS_EACH_SECOND * 534;
+    for rate in [1_000_000, 10_000_000] {
+        let mut course = Course::new(rt.alloc(), line(rate, 1, 0, 0))?;
+        course.run_till(4000)?;
+        assert!(rt; !course.lost);
+        assert!(rt; course.speed() >= most / 100 * 95);
+        assert!(rt; course.speed() <= most / 100 * 101);
     }
     Ok(())
 }
