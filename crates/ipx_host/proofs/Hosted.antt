@@ -294,58 +294,60 @@ ended_well old new once Unwritten drives peers steps serves wrote status none = 
 ended_well old new once Unwaited drives peers steps serves wrote status none = absurd (cc)
 
 -- one that was started has no connection yet, and nothing to write
-pub begun : {K T E : Type 0} (file : HostConfig) (X : Type 0) (started : Result T E) (at : T → Host K) (its : T → Bool) (among : T → Peers) (once : Bool) (a b : Option (List ℕ)) (drives : K → Turn → K → Type 0) (status : ℕ)
+pub begun : {K T E : Type 0} (file : HostConfig) (X : Type 0) (P : K → Type 0) (started : Result T E) (at : T → Host K) (its : T → Bool) (among : T → Peers) (once : Bool) (a b : Option (List ℕ)) (drives : K → Turn → K → Type 0) (status : ℕ)
     → IfOk started (λ l. (at l).core.endpoint.network ≡ file.network) → IfOk started (λ l. (at l).core.endpoint.node ≡ node_at file.address)
     → IfOk started (λ l. (at l).core.endpoint.router ≡ node_at file.router) → IfOk started (λ l. among l ≡ (file.router ∷ []) ∷ [])
     → IfOk started (λ l. buffers_at (at l).core.endpoint file.socket ≡ Some file.buffers)
     → IfOk started (λ l. (s : Socket) → s.0 ≢ file.socket.0 → buffers_at (at l).core.endpoint s ≡ None)
     → IfOk started (λ l. (id : ℕ) → held_at (at l).core.endpoint id ≡ None) → IfOk started (λ l. (at l).core.came ≡ None) → IfOk started (λ l. (at l).core.paced ≡ None)
     → IfOk started (λ l. named_in (at l).core.from ≡ named_in file.from) → IfOk started (λ l. (at l).core.network ≡ file.network)
-    → IfOk started (λ l. (at l).sessions ≡ []) → IfOk started (λ l. (at l).left ≡ []) → IfOk started (λ l. its l ≡ once) → ((l : T) → (at l).written ≡ a)
+    → IfOk started (λ l. (at l).sessions ≡ []) → IfOk started (λ l. (at l).left ≡ []) → IfOk started (λ l. its l ≡ once) → IfOk started (λ l. P (at l).around) → ((l : T) → (at l).written ≡ a)
     → OnErr started ((status ≡ 1) × X) → (status ≡ 0 → IfOk started (λ l. IsTrue (its l))) → (status ≡ 0 → IfOk started (λ l. (steps : List StepView) × ServesWell (at l) (its l) b drives (among l) steps)) → status ≡ 0
-    → ListensWell file once a b drives
-begun file X (Err e) at its among once a b drives status network node router routed listens alone links accepted unpaced from own nobody nothing same written unstarted only well ends =
+    → (w : ListensWell file once a b drives) × P w.start.around
+begun file X P (Err e) at its among once a b drives status network node router routed listens alone links accepted unpaced from own nobody nothing same opened written unstarted only well ends =
     absurd (omega (arith, unstarted.0, ends))
-begun {K} file X (Ok l) at its among once a b drives status network node router routed listens alone links accepted unpaced from own nobody nothing same written unstarted only well ends =
+begun {K} file X P (Ok l) at its among once a b drives status network node router routed listens alone links accepted unpaced from own nobody nothing same opened written unstarted only well ends =
     let run = well ends in
     let took : Appends (at l).written b ((at l).left ++ bytes_of run.0) = run.1.4 in
     let bare : Appends (at l).written b (bytes_of run.0) = subst (λ (x : List ℕ). Appends (at l).written b (x ++ bytes_of run.0)) nothing took in
-    let one = heard_out (at l) run.1.0 (its l) drives (among l) run.0 (only ends) nobody run.1.1 in
-    record {
-      start = at l;
-      peers = among l;
-      steps = run.0;
-      begins = record {
-        network = network;
-        node = node;
-        router = router;
-        among = routed;
-        listens = listens;
-        alone = alone;
-        unlinked = links;
-        unasked = accepted;
-        unpaced = unpaced;
-        from = from;
-        own = own;
-        nobody = nobody;
-        nothing = nothing;
-        known = written l;
-      };
-      serves = subst (λ (o : Bool). ServesWell (at l) o b drives (among l) run.0) same run.1;
-      id = one.0;
-      from = one.1;
-      one = one.2;
-      took = subst (λ (w : Option (List ℕ)). Appends w b (bytes_of run.0)) (written l) bare;
-    }
+    let one = heard_out (at l) run.1.0 (its l) drives (among l) run.0 (only ends) nobody run.1.1 in (
+      record {
+        start = at l;
+        peers = among l;
+        steps = run.0;
+        begins = record {
+          network = network;
+          node = node;
+          router = router;
+          among = routed;
+          listens = listens;
+          alone = alone;
+          unlinked = links;
+          unasked = accepted;
+          unpaced = unpaced;
+          from = from;
+          own = own;
+          nobody = nobody;
+          nothing = nothing;
+          known = written l;
+        };
+        serves = subst (λ (o : Bool). ServesWell (at l) o b drives (among l) run.0) same run.1;
+        id = one.0;
+        from = one.1;
+        one = one.2;
+        took = subst (λ (w : Option (List ℕ)). Appends w b (bytes_of run.0)) (written l) bare;
+      },
+      opened,
+    )
 
 -- the status of a file that can't be loaded is 1 or 2
-pub loaded_so : {K : Type 0} (X : Type 0) (once : Bool) (a b : Option (List ℕ)) (drives : K → Turn → K → Type 0) (loaded : Result HostConfig ℕ) (status : ℕ)
+pub loaded_so : (X : Type 0) (Well : HostConfig → Type 0) (loaded : Result HostConfig ℕ) (status : ℕ)
     → IfErr loaded (λ s. (s ≡ 1) ⊎ (s ≡ 2)) → IfOk loaded (λ h. (text : List ℕ) × IsFileText text × IsHostText text h)
-    → IfOk loaded (λ h. status ≡ 0 → ListensWell h once a b drives) → IfErr loaded (λ s. (status ≡ s) × X) → status ≡ 0
-    → (text : List ℕ) × (file : HostConfig) × IsFileText text × IsHostText text file × ListensWell file once a b drives
-loaded_so X once a b drives (Ok h) status fault said well unloaded ends = (said.0, h, said.1, said.2, well ends)
-loaded_so X once a b drives (Err s) status (inl e) said well unloaded ends = absurd (omega (arith, unloaded.0, e, ends))
-loaded_so X once a b drives (Err s) status (inr e) said well unloaded ends = absurd (omega (arith, unloaded.0, e, ends))
+    → IfOk loaded (λ h. status ≡ 0 → Well h) → IfErr loaded (λ s. (status ≡ s) × X) → status ≡ 0
+    → (text : List ℕ) × (file : HostConfig) × IsFileText text × IsHostText text file × Well file
+loaded_so X Well (Ok h) status fault said well unloaded ends = (said.0, h, said.1, said.2, well ends)
+loaded_so X Well (Err s) status (inl e) said well unloaded ends = absurd (omega (arith, unloaded.0, e, ends))
+loaded_so X Well (Err s) status (inr e) said well unloaded ends = absurd (omega (arith, unloaded.0, e, ends))
 
 -- a status above those of a host that was loaded is that of a file, and nothing is done then
 pub untouched_by : {T : Type 0} (X P : Type 0) (loaded : Result T ℕ) (status : ℕ) → OnOk loaded P → (P → X) → IfErr loaded (λ s. (status ≡ s) × X) → X

@@ -182,28 +182,31 @@ transfers_end old new drives peers id t was =
     subst (λ k. IsAtEnd k) (sym last.known) (rounds_end old t.bodies t.runs.0 drives peers id t.runs.1 was (sym last.read ∙ t.read))
 
 -- what was opened and ran well is a transfer of the host of a file
-pub sends : {S E K : Type 0} (X : Type 0) (opened : Result S E) (r : ℕ) (file : HostConfig) (to : Address) (known left : Option (List ℕ)) (drives : K → Turn → K → Type 0) (at : S → Option (List ℕ) → SendState K) (among : S → Peers) (id : S → ℕ)
+pub sends : {S E K : Type 0} (X : Type 0) (opened : Result S E) (r : ℕ) (file : HostConfig) (to : Address) (known left : Option (List ℕ)) (drives : K → Turn → K → Type 0) (P : K → Type 0) (at : S → Option (List ℕ) → SendState K) (among : S → Peers) (id : S → ℕ)
     → is_nowhere file to ≡ false → ((s : S) (k : Option (List ℕ)) → (at s k).known ≡ k)
     → IfOk opened (λ s. (k : Option (List ℕ)) → IsDialing file to (at s k) (among s) (id s))
+    → IfOk opened (λ s. P (at s known).around)
     → IfOk opened (λ s. r ≡ 0 → (last : SendState K) × Transfers (at s known) last drives (among s) (id s) × (last.known ≡ left))
-    → OnErr opened ((r ≡ 1) × X) → r ≡ 0 → SendsInput file to known left drives
-sends X (Ok s) r file to known left drives at among id goes begins dials ran failed zero =
+    → OnErr opened ((r ≡ 1) × X) → r ≡ 0 → (w : SendsInput file to known left drives) × P w.start.around
+sends X (Ok s) r file to known left drives P at among id goes begins dials port ran failed zero =
     let run = ran zero in
-    let dial = dials known in
-    record {
-      goes = goes;
-      id = id s;
-      peers = among s;
-      start = at s known;
-      last = run.0;
-      dials = dial;
-      begins = begins s known;
-      transfers = run.1;
-      ends = run.2;
-      all = subst (λ k. IsAtEnd k) run.2 (transfers_end (at s known) run.0 drives (among s) (id s) run.1 (λ read. absurd (let no = sym dial.unread ∙ read in cc)));
-      whole = run.1.whole;
-    }
-sends X (Err e) r file to known left drives at among id goes begins dials ran failed zero = absurd (omega (arith, failed.0, zero))
+    let dial = dials known in (
+      record {
+        goes = goes;
+        id = id s;
+        peers = among s;
+        start = at s known;
+        last = run.0;
+        dials = dial;
+        begins = begins s known;
+        transfers = run.1;
+        ends = run.2;
+        all = subst (λ k. IsAtEnd k) run.2 (transfers_end (at s known) run.0 drives (among s) (id s) run.1 (λ read. absurd (let no = sym dial.unread ∙ read in cc)));
+        whole = run.1.whole;
+      },
+      port,
+    )
+sends X (Err e) r file to known left drives P at among id goes begins dials port ran failed zero = absurd (omega (arith, failed.0, zero))
 
 -- what holds of a value that succeeded
 pub on_ok : {S E : Type 0} (P : S → Type 0) (o : Result S E) (s : S) → o ≡ Ok s → P s → IfOk o P

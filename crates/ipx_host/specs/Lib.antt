@@ -23,3 +23,4 @@ pub mod Turning
 pub mod Access
 pub mod Midway
 pub mod HostLines
+pub mod HostPorts

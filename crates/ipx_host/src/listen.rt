@@ -1,11 +1,12 @@
 //! The command `listen`: a host that accepts connections, and writes the messages that it receives.
 
-ghost use Rattle.std.specs.Prelude.{◌≡◌, ◌<◌, ◌≤◌, ℕ, List, IfErr, IfOk, IsTrue, OnErr, OnOk, Err, Ok};
+ghost use Rattle.std.specs.Prelude.{◌≡◌, ◌<◌, ◌≤◌, ℕ, List, IfErr, IfOk, IsTrue, OnErr, OnOk, Err, None, Ok};
 ghost use Rattle.ipx_carrier.specs.Turns.{peers_of};
 ghost use Rattle.ipx_config.specs.Host.{IsHostText};
 ghost use Rattle.ipx_config.specs.Loading.{IsFileText};
 ghost use Rattle.ipx_host.specs.Turning.{Around, DrivesTurn};
 ghost use Rattle.ipx_config.specs.declared.host.HostConfig.{HostConfig as AHostFile};
+ghost use Rattle.ipx_host.specs.HostPorts.{IsOpened};
 ghost use Rattle.ipx_host.specs.Hosting.{ListensWell, ServesWell, StepView};
 ghost use Rattle.ipx_host.specs.Midway.{listening_at};
 
@@ -69,9 +70,10 @@ fn listen_by<R: Net + Log + Clock + Eprint, W: Write>(
     // Without `once` a loaded host never ends well.
     ensures once { OnOk loaded (result ≡ 0 → IsTrue once) }
     // If it ends well, the host of the file has run. Its writer took the bodies of the messages of
-    // one connection, one after another.
-    ensures well { IfOk loaded (λ file. result ≡ 0 → ListensWell {K = Around R} file once
-        (W.contents writer.old) (W.contents writer.new) DrivesTurn) }
+    // one connection, one after another. It began with its port as it was opened.
+    ensures well { IfOk loaded (λ file. result ≡ 0 → (well : ListensWell {K = Around R} file once
+        (W.contents writer.old) (W.contents writer.new) DrivesTurn)
+        × IsOpened file None well.start.around.port) }
 {
     let file = match loaded {
         Ok(file) => file,
@@ -103,11 +105,13 @@ pub fn do_listen<R: Net + Log + Files + Clock + Eprint, W: Write>(
     // If it ends well, some text of a file describes the host that has run. The host began with no
     // connection and nothing to write. It heard from one connection only, and took the end of that
     // connection last. Its writer took the bodies of the messages of that connection, one after
-    // another, and nothing else.
+    // another, and nothing else. The host began with its port as it was opened: one marked socket
+    // at the address and the UDP port of the file.
     ensures well { result ≡ 0 → (text : List ℕ) × (file : AHostFile)
         × IsFileText text × IsHostText text file
-        × ListensWell {K = Around R} file once (W.contents writer.old) (W.contents writer.new)
-        DrivesTurn }
+        × (well : ListensWell {K = Around R} file once (W.contents writer.old)
+        (W.contents writer.new) DrivesTurn)
+        × IsOpened file None well.start.around.port }
     // If the file has a fault, nothing is written.
     ensures untouched { result ≡ 2 → writer.new ≡ writer.old }
 {

@@ -14,6 +14,7 @@ ghost use Rattle.spx_messages.specs.EndpointView.{buffers_at, held_at};
 ghost use Rattle.ipx_host.specs.Access.{guarded_host};
 ghost use Rattle.ipx_host.specs.Hosting.{HearsAndNotesAll, Serves, StepView, StepsTo, bytes_of};
 ghost use Rattle.ipx_host.specs.HostOutput.{Writes, left_of};
+ghost use Rattle.ipx_host.specs.HostPorts.{IsOpened};
 ghost use Rattle.ipx_sockets.specs.Polling.{FailedToWait, FailsToWait, WaitsWell, watched_if};
 ghost use Rattle.ipx_host.specs.SessionLogs.{LogsCounts};
 ghost use Rattle.ipx_host.specs.Sleeping.{MayRest};
@@ -128,6 +129,9 @@ impl<'a, R: Net + Log + Clock> ListeningHost<'a, R> {
         // The file says which hosts it receives from and sends to.
         ensures access_list { IfOk result (λ l.
             map access_by l.station.host_socket.ports.device.access_lists.items ≡ guarded_host file.now None ∷ []) }
+        // Its port is as it was opened: asked nothing yet, and marked.
+        ensures opened { IfOk result (λ l.
+            IsOpened file.now None l.station.host_socket.ports) }
         // It watches its one socket, and standard output if it can be polled, and has not waited.
         ensures watches { IfOk result (λ l. (gate : Option ℤ) × (l.station.poller.trace.items
             ≡ map Watched (udp_fds l.station.host_socket.ports.device.device.sockets.items)

@@ -8,7 +8,7 @@ ghost use Rattle.ipx_sockets.specs.Moments.{AreLoggedIfDue};
 ghost use Rattle.ipx_config.specs.AllowedPeers.{named_in};
 ghost use Rattle.ipx_sockets.specs.PollEvents.{Watched};
 ghost use Rattle.ipx_sockets.specs.PortTurns.{marked_port};
-ghost use Rattle.ipx_sockets.specs.Senders.{udp_fds};
+ghost use Rattle.ipx_sockets.specs.Senders.{udp_events, udp_fds};
 ghost use Rattle.ipx_sockets.specs.SourceFilter.{drops_in};
 ghost use Rattle.ipx_sockets.specs.AccessLists.{access_by};
 ghost use Rattle.ipx_wire.specs.declared.address.Socket.{Socket};
@@ -123,6 +123,10 @@ impl HostSocket {
             ≡ v4_at file.now.address file.now.udp_port ∷ []) }
         ensures access_list { IfOk result (λ r.
             map access_by r.0.ports.device.access_lists.items ≡ guarded_host file.now dials ∷ []) }
+        // The socket was asked nothing yet, and is marked.
+        ensures unasked { IfOk result (λ r.
+            udp_events r.0.ports.device.device.sockets.items ≡ [] ∷ []) }
+        ensures marks { IfOk result (λ r. r.0.ports.device.device.marks ≡ true ∷ []) }
         // The poll watches its socket, and nothing else, and has not waited.
         ensures watches { IfOk result (λ r.
             r.1.trace.items ≡ map Watched (udp_fds r.0.ports.device.device.sockets.items)) }
@@ -209,6 +213,10 @@ impl<'a, R: Net + Log + Clock> RunningHost<'a, R> {
             map (λ s. s.udp_port) s.host_socket.ports.device.device.sockets.items ≡ file.now.udp_port ∷ []) }
         ensures at { IfOk result (λ s. map (λ s. s.socket.at) s.host_socket.ports.device.device.sockets.items
             ≡ v4_at file.now.address file.now.udp_port ∷ []) }
+        // The socket was asked nothing yet, and is marked.
+        ensures unasked { IfOk result (λ s.
+            udp_events s.host_socket.ports.device.device.sockets.items ≡ [] ∷ []) }
+        ensures marks { IfOk result (λ s. s.host_socket.ports.device.device.marks ≡ true ∷ []) }
         // Its access list is that of the file and the dialed node.
         ensures access_list { IfOk result (λ s.
             map access_by s.host_socket.ports.device.access_lists.items ≡ guarded_host file.now dials ∷ []) }

@@ -7,7 +7,8 @@ ghost use Rattle.ipx_config.specs.Host.{IsHostText};
 ghost use Rattle.ipx_config.specs.Loading.{IsFileText};
 ghost use Rattle.ipx_host.specs.Turning.{Around, DrivesTurn};
 ghost use Rattle.ipx_wire.specs.declared.address.Address.{Address};
-ghost use Rattle.ipx_config.specs.Destinations.{peer_address_of, is_nowhere};
+ghost use Rattle.ipx_config.specs.Destinations.{dialed_ip, peer_address_of, is_nowhere};
+ghost use Rattle.ipx_host.specs.HostPorts.{IsOpened};
 ghost use Rattle.ipx_host.specs.Midway.{sending_at};
 ghost use Rattle.ipx_host.specs.SendRounds.{SendState, Transfers};
 ghost use Rattle.ipx_host.specs.Sent.{SendsInput, SendsWholeInput};
@@ -67,9 +68,11 @@ fn send_loaded<R: Net + Log + Clock + Eprint, I: Read>(
     ensures status { IfOk loaded (λ file. is_nowhere file (peer_address_of file to) ≡ false
         → result < 2) }
     // If it ends well, the host of the file sent to the address all that the reader had.
+    // It began with its port as it was opened.
     ensures sent { IfOk loaded (λ file. result ≡ 0
-        → SendsInput {K = Around R} file (peer_address_of file to)
-        (I.remaining reader.old) (I.remaining reader.new) DrivesTurn) }
+        → (sent : SendsInput {K = Around R} file (peer_address_of file to)
+        (I.remaining reader.old) (I.remaining reader.new) DrivesTurn)
+        × IsOpened file (dialed_ip file (peer_address_of file to)) sent.start.around.port) }
     ensures unloaded { IfErr loaded (λ status. (result ≡ status) × (reader.new ≡ reader.old)) }
 {
     let file = match loaded {
@@ -112,11 +115,14 @@ pub fn do_send<R: Net + Log + Files + Clock + Eprint, I: Read>(
     ensures all { result ≡ 0 → IsAtEnd (I.remaining reader.new) }
     // Some text of a file describes a host that has sent all that the reader had to the address of
     // the arguments. It did so in rounds. In the last one the peer had acknowledged all of it, and
-    // the end too.
+    // the end too. The first round began with the port of the host as it was opened: one marked
+    // socket at the address and the UDP port of the file.
     ensures sent { result ≡ 0 → (text : List ℕ) × (file : HostConfig) × (to : Address)
         × IsFileText text × IsHostText text file × NamesAddress target.entry to
-        × SendsWholeInput {K = Around R} file (peer_address_of file to)
-        (I.remaining reader.old) (I.remaining reader.new) DrivesTurn }
+        × (sent : SendsWholeInput {K = Around R} file (peer_address_of file to)
+        (I.remaining reader.old) (I.remaining reader.new) DrivesTurn)
+        × IsOpened file (dialed_ip file (peer_address_of file to))
+        sent.sends.start.around.port }
 {
     let to = match target.address() {
         Ok(to) => to,

@@ -12,6 +12,7 @@ ghost use Rattle.ipx_wire.specs.declared.address.Address.{Address};
 ghost use Rattle.spx_messages.specs.EndpointView.{held_at};
 ghost use Rattle.ipx_host.specs.Books.{EntersAcknowledged};
 ghost use Rattle.ipx_host.specs.Access.{guarded_host};
+ghost use Rattle.ipx_host.specs.HostPorts.{IsOpened};
 ghost use Rattle.ipx_config.specs.Destinations.{dialed_ip as ip_dialed};
 ghost use Rattle.ipx_sockets.specs.Polling.{FailedToWait, FailsToWait, WaitsWell, watched_if};
 ghost use Rattle.ipx_host.specs.SendRounds.{EndsWith, IsSendStep, LastsOn, Transfers};
@@ -88,6 +89,9 @@ impl<'a, R: Net + Log + Clock + Eprint> SendingHost<'a, R> {
         // Its access list is that of its file and the node that it dials.
         ensures access_list { IfOk result (λ s. map access_by s.station.host_socket.ports.device.access_lists.items
             ≡ guarded_host file.now (ip_dialed file.now to) ∷ []) }
+        // Its port is as it was opened: asked nothing yet, and marked.
+        ensures opened { IfOk result (λ s.
+            IsOpened file.now (ip_dialed file.now to) s.station.host_socket.ports) }
         // It watches its one socket, and standard input if it can be polled, and has not waited.
         ensures watches { IfOk result (λ s. (gate : Option ℤ) × (s.station.poller.trace.items
             ≡ map Watched (udp_fds s.station.host_socket.ports.device.device.sockets.items)

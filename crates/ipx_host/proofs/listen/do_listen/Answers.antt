@@ -4,7 +4,7 @@ use Rattle.ipx_host.proofs.listen.do_listen.Goals as goal
 
 pub returns-clause-well : goal.returns-clause-well
 returns-clause-well g c =
-    loaded_so (c.listen_by.new.writer ≡ c.args.writer.now) c.args.once (g.W.Write.contents c.args.writer.now) (g.W.Write.contents c.listen_by.new.writer) _ c.load_host-loaded.result c.listen_by.result
+    loaded_so (c.listen_by.new.writer ≡ c.args.writer.now) _ c.load_host-loaded.result c.listen_by.result
     c.load_host-loaded.ensures.fault c.load_host-loaded.ensures.host c.listen_by.ensures.well c.listen_by.ensures.unloaded
 
 pub returns-clause-untouched : goal.returns-clause-untouched

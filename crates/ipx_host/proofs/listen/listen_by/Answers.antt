@@ -1,5 +1,6 @@
-use Rattle.std.proofs.Common.{◌≡◌, refl}
+use Rattle.std.proofs.Common.{◌≡◌, None, refl}
 use Rattle.ipx_carrier.specs.Turns.{peers_of}
+use Rattle.ipx_host.specs.HostPorts.{IsOpened}
 use Rattle.ipx_host.specs.Turning.{DrivesTurn}
 use Rattle.ipx_host.specs.Midway.{listening_at}
 use Rattle.ipx_host.proofs.Hosted.{begun}
@@ -12,6 +13,6 @@ returns-clause-well g c =
     let started = c.open-started.ensures in
     let ran = c.run_listening.ensures in
     on_ok _ c.args.loaded c.in-Ok.file c.in-Ok.is
-    (begun c.in-Ok.file (c.run_listening.new.writer ≡ c.args.writer.now) c.open-started.result (λ l. listening_at l (held c.args.writer.now)) (λ l. l.sessions.once) (λ l. peers_of l.station.host_socket.ports.peers.items)
+    (begun c.in-Ok.file (c.run_listening.new.writer ≡ c.args.writer.now) (λ k. IsOpened c.in-Ok.file None k.port) c.open-started.result (λ l. listening_at l (held c.args.writer.now)) (λ l. l.sessions.once) (λ l. peers_of l.station.host_socket.ports.peers.items)
     c.args.once (held c.args.writer.now) (held c.run_listening.new.writer) DrivesTurn c.run_listening.result
-    started.network started.node started.router started.peers started.listens started.alone started.links started.accepted started.unpaced started.from started.own started.nobody started.nothing started.once (λ l. refl) ran.unstarted ran.once ran.well)
+    started.network started.node started.router started.peers started.listens started.alone started.links started.accepted started.unpaced started.from started.own started.nobody started.nothing started.once started.opened (λ l. refl) ran.unstarted ran.once ran.well)

@@ -5,7 +5,9 @@ use Rattle.ipx_config.specs.Host.{IsHostText}
 use Rattle.ipx_config.specs.Loading.{IsFileText}
 use Rattle.ipx_config.specs.declared.host.HostConfig.{HostConfig}
 use Rattle.ipx_wire.specs.declared.address.Address.{Address}
-use Rattle.ipx_config.specs.Destinations.{peer_address_of, is_nowhere}
+use Rattle.ipx_config.specs.Destinations.{dialed_ip, peer_address_of, is_nowhere}
+use Rattle.ipx_host.specs.HostPorts.{IsOpened}
+use Rattle.ipx_host.specs.Turning.{DrivesTurn}
 use Rattle.ipx_host.specs.Sent.{HasBuffers, SendsInput, SendsWholeInput}
 use Rattle.ipx_config.specs.Target.{NamesAddress}
 use Rattle.ipx_config.specs.declared.target.Target.{Target}
@@ -46,13 +48,15 @@ buffers_of text h is = elim is.2.buffers [
 ]
 
 -- what was sent, and by which file
-sent_of : {K : Type 0} (X : Type 0) (t : Target) (to : Address) (known left : Option (List ℕ)) (drives : K → Turn → K → Type 0) (loaded : Result HostConfig ℕ) (r : ℕ)
+sent_of : {K : Type 0} (X : Type 0) (t : Target) (to : Address) (known left : Option (List ℕ)) (drives : K → Turn → K → Type 0) (P : HostConfig → Address → K → Type 0) (loaded : Result HostConfig ℕ) (r : ℕ)
     → IfErr loaded (λ s. (s ≡ 1) ⊎ (s ≡ 2)) → IfErr loaded (λ s. (r ≡ s) × X) → IfOk loaded (λ h. (text : List ℕ) × IsFileText text × IsHostText text h) → NamesAddress t to
-    → IfOk loaded (λ h. r ≡ 0 → SendsInput h (peer_address_of h to) known left drives) → r ≡ 0
-    → (text : List ℕ) × (file : HostConfig) × (a : Address) × IsFileText text × IsHostText text file × NamesAddress t a × SendsWholeInput file (peer_address_of file a) known left drives
-sent_of X t to known left drives (Ok h) r fault unloaded host named sent zero = (host.0, h, to, host.1, host.2, named, record { buffers = buffers_of host.0 h host.2; sends = sent zero })
-sent_of X t to known left drives (Err s) r (inl e) unloaded host named sent zero = absurd (omega (arith, unloaded.0, e, zero))
-sent_of X t to known left drives (Err s) r (inr e) unloaded host named sent zero = absurd (omega (arith, unloaded.0, e, zero))
+    → IfOk loaded (λ h. r ≡ 0 → (w : SendsInput h (peer_address_of h to) known left drives) × P h to w.start.around) → r ≡ 0
+    → (text : List ℕ) × (file : HostConfig) × (a : Address) × IsFileText text × IsHostText text file × NamesAddress t a × (w : SendsWholeInput file (peer_address_of file a) known left drives) × P file a w.sends.start.around
+sent_of X t to known left drives P (Ok h) r fault unloaded host named sent zero =
+    let it = sent zero in
+    (host.0, h, to, host.1, host.2, named, record { buffers = buffers_of host.0 h host.2; sends = it.0 }, it.1)
+sent_of X t to known left drives P (Err s) r (inl e) unloaded host named sent zero = absurd (omega (arith, unloaded.0, e, zero))
+sent_of X t to known left drives P (Err s) r (inr e) unloaded host named sent zero = absurd (omega (arith, unloaded.0, e, zero))
 
 pub returns-clause-few : goal.returns-clause-few
 returns-clause-few g c =
@@ -61,12 +65,12 @@ returns-clause-few g c =
 
 pub returns-clause-sent : goal.returns-clause-sent
 returns-clause-sent g c =
-    sent_of (c.send_loaded.new.reader ≡ c.args.reader.now) c.args.target c.in-Ok.to (g.I.Read.remaining c.args.reader.now) (g.I.Read.remaining c.send_loaded.new.reader) _ c.load_host-loaded.result c.send_loaded.result
+    sent_of (c.send_loaded.new.reader ≡ c.args.reader.now) c.args.target c.in-Ok.to (g.I.Read.remaining c.args.reader.now) (g.I.Read.remaining c.send_loaded.new.reader) DrivesTurn (λ file to k. IsOpened file (dialed_ip file (peer_address_of file to)) k.port) c.load_host-loaded.result c.send_loaded.result
     c.load_host-loaded.ensures.fault c.send_loaded.ensures.unloaded c.load_host-loaded.ensures.host c.in-Ok.ensures.named c.send_loaded.ensures.sent
 
 pub returns-clause-all : goal.returns-clause-all
 returns-clause-all g c = λ zero.
-    let sent = sent_of (c.send_loaded.new.reader ≡ c.args.reader.now) c.args.target c.in-Ok.to (g.I.Read.remaining c.args.reader.now) (g.I.Read.remaining c.send_loaded.new.reader) _ c.load_host-loaded.result c.send_loaded.result
+    let sent = sent_of (c.send_loaded.new.reader ≡ c.args.reader.now) c.args.target c.in-Ok.to (g.I.Read.remaining c.args.reader.now) (g.I.Read.remaining c.send_loaded.new.reader) DrivesTurn (λ file to k. IsOpened file (dialed_ip file (peer_address_of file to)) k.port) c.load_host-loaded.result c.send_loaded.result
     c.load_host-loaded.ensures.fault c.send_loaded.ensures.unloaded c.load_host-loaded.ensures.host c.in-Ok.ensures.named c.send_loaded.ensures.sent zero in
     sent.6.sends.all
 
