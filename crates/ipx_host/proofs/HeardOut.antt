@@ -16,6 +16,7 @@ use Rattle.ipx_host.specs.Hosting.{HearsOneOut, Host, IsOneIfHeard, MovesSome, N
 use Rattle.ipx_host.specs.Passing.{PassesEach, PassesFrom, Take, TakesWhileOpen, held_after, phase_after, phase_with, takes_after, takes_each, takes_from}
 use Rattle.ipx_host.specs.SessionActions.{ends, is_unheard, phase_heard}
 use Rattle.ipx_host.specs.Sessions.{Admits, Asks as IsAsked, DoesNoted, Evicts, has_spoken, heard_by, is_at_limit, is_ended, is_of_node, is_unanswered, LetsLinkGo, LetsLinksGo, once_heard, place_of_own, place_to_free, session_of}
+use Rattle.ipx_host.specs.SessionLogs.{ListenerCounts}
 use Rattle.ipx_host.specs.Tending.{DoesAction, TendsFirst, TendsOn}
 use Rattle.ipx_host.specs.declared.listening.ListenOutcome.{ListenOutcome}
 use Rattle.ipx_host.specs.declared.listening.ListenOutcome.TheVariants as Stops
@@ -313,45 +314,45 @@ within_of [] place c at = absurd (cc)
 within_of (k ∷ ks) zero c at = omega arith
 within_of (k ∷ ks) (suc n) c at = omega (arith, within_of ks n c at)
 
-done_none : (now place : ℕ) (c : Session) (fate : SessionAction) (old new : EndpointView) (cs cs' : List Session) → slice_get cs place ≡ Some c → list_any has_spoken cs ≡ false
-    → DoesAction true now c place fate old new cs cs' None → list_any has_spoken cs' ≡ false
-done_none now place c Stays old new cs cs' at none does = ap (list_any has_spoken) does.1 ∙ none
-done_none now place c Asks old new cs cs' at none does =
+done_none : (now place : ℕ) (c : Session) (fate : SessionAction) (old new : EndpointView) (cs cs' : List Session) (ns ms : ListenerCounts) → slice_get cs place ≡ Some c → list_any has_spoken cs ≡ false
+    → DoesAction true now c place fate old new cs cs' ns ms None → list_any has_spoken cs' ≡ false
+done_none now place c Stays old new cs cs' ns ms at none does = ap (list_any has_spoken) does.1 ∙ none
+done_none now place c Asks old new cs cs' ns ms at none does =
     let within = within_of cs place c at in
     let here : get_or cs place c ≡ c = get_or_from_slice_get cs place c c at in
     let same : has_spoken does.0 ≡ has_spoken (get_or cs place c) = (asked_same now old new c does.0 does.1).2 ∙ sym (ap has_spoken here) in
     ap (list_any has_spoken) does.2 ∙ any_set has_spoken cs place does.0 c within same ∙ none
-done_none now place c Over old new cs cs' at none does = ap (list_any has_spoken) does.1 ∙ none_removed cs place none
-done_none now place c GivenUp old new cs cs' at none does = ap (list_any has_spoken) does.1 ∙ none_removed cs place none
+done_none now place c Over old new cs cs' ns ms at none does = ap (list_any has_spoken) does.1 ∙ none_removed cs place none
+done_none now place c GivenUp old new cs cs' ns ms at none does = ap (list_any has_spoken) does.1 ∙ none_removed cs place none
 
-done_alone : (now id : ℕ) (from : Address) (c k : Session) (fate : SessionAction) (old new : EndpointView) (cs' : List Session) → Is id from c → c ≡ k
-    → DoesAction true now k 0 fate old new (c ∷ []) cs' None → Goes id from (is_ended c) cs'
-done_alone now id from c k Stays old new cs' is same does = (c, does.1, is, refl)
-done_alone now id from c k Asks old new cs' is same does =
+done_alone : (now id : ℕ) (from : Address) (c k : Session) (fate : SessionAction) (old new : EndpointView) (cs' : List Session) (ns ms : ListenerCounts) → Is id from c → c ≡ k
+    → DoesAction true now k 0 fate old new (c ∷ []) cs' ns ms None → Goes id from (is_ended c) cs'
+done_alone now id from c k Stays old new cs' ns ms is same does = (c, does.1, is, refl)
+done_alone now id from c k Asks old new cs' ns ms is same does =
     let so = asked_same now old new k does.0 does.1 in
     (does.0, does.2, (so.0 ∙ sym (ap (λ (j : Session). j.id) same) ∙ is.0, so.1 ∙ sym (ap (λ (j : Session). j.from) same) ∙ is.1, so.2 ∙ sym (ap has_spoken same) ∙ is.2), so.3 ∙ sym (ap is_ended same))
-done_alone now id from c k Over old new cs' is same does =
+done_alone now id from c k Over old new cs' ns ms is same does =
     absurd (parted_some Over k.phase (unheard_of (is_unheard k.phase) (sym (ap has_spoken same) ∙ is.2)) does.2)
-done_alone now id from c k GivenUp old new cs' is same does =
+done_alone now id from c k GivenUp old new cs' ns ms is same does =
     absurd (parted_some GivenUp k.phase (unheard_of (is_unheard k.phase) (sym (ap has_spoken same) ∙ is.2)) does.2)
 
-tended_alone : (id : ℕ) (from : Address) (c k : Session) (place : ℕ) (fate : SessionAction) (now : ℕ) (old new : EndpointView) (cs' : List Session) → Is id from c → slice_get (c ∷ []) place ≡ Some k
-    → DoesAction true now k place fate old new (c ∷ []) cs' None → Goes id from (is_ended c) cs'
-tended_alone id from c k zero fate now old new cs' is at does = done_alone now id from c k fate old new cs' is (same_some c k at) does
-tended_alone id from c k (suc n) fate now old new cs' is at does = absurd (omega (arith, within_of (c ∷ []) (suc n) k at))
+tended_alone : (id : ℕ) (from : Address) (c k : Session) (place : ℕ) (fate : SessionAction) (now : ℕ) (old new : EndpointView) (cs' : List Session) (ns ms : ListenerCounts) → Is id from c → slice_get (c ∷ []) place ≡ Some k
+    → DoesAction true now k place fate old new (c ∷ []) cs' ns ms None → Goes id from (is_ended c) cs'
+tended_alone id from c k zero fate now old new cs' ns ms is at does = done_alone now id from c k fate old new cs' ns ms is (same_some c k at) does
+tended_alone id from c k (suc n) fate now old new cs' ns ms is at does = absurd (omega (arith, within_of (c ∷ []) (suc n) k at))
 
-tends_none : (n : ℕ) (old new : PacedHostCore) (cs cs' : List Session) → list_any has_spoken cs ≡ false → TendsOn n true old new cs cs' → list_any has_spoken cs' ≡ false
-tends_none zero old new cs cs' none run = ap (list_any has_spoken) run.1 ∙ none
-tends_none (suc n) old new cs cs' none run =
-    let t = run.3 in
-    done_none run.0.moment t.place t.session t.tends.0 run.0.endpoint new.endpoint run.1 cs' t.there (tends_none n old run.0 cs run.1 none run.2) t.tends.2
+tends_none : (n : ℕ) (old new : PacedHostCore) (cs cs' : List Session) (ns ms : ListenerCounts) → list_any has_spoken cs ≡ false → TendsOn n true old new cs cs' ns ms → list_any has_spoken cs' ≡ false
+tends_none zero old new cs cs' ns ms none run = ap (list_any has_spoken) run.1 ∙ none
+tends_none (suc n) old new cs cs' ns ms none run =
+    let t = run.4 in
+    done_none run.0.moment t.place t.session t.tends.0 run.0.endpoint new.endpoint run.1 cs' run.2 ms t.there (tends_none n old run.0 cs run.1 ns run.2 none run.3) t.tends.2
 
-tends_alone : (n : ℕ) (old new : PacedHostCore) (id : ℕ) (from : Address) (c : Session) (cs' : List Session) → Is id from c → TendsOn n true old new (c ∷ []) cs' → Goes id from (is_ended c) cs'
-tends_alone zero old new id from c cs' is run = (c, run.1, is, refl)
-tends_alone (suc n) old new id from c cs' is run =
-    let g = tends_alone n old run.0 id from c run.1 is run.2 in
-    let t : TendsFirst true run.0 new (g.0 ∷ []) cs' None = subst (λ (l : List Session). TendsFirst true run.0 new l cs' None) g.1 run.3 in
-    let h = tended_alone id from g.0 t.session t.place t.tends.0 run.0.moment run.0.endpoint new.endpoint cs' g.2 t.there t.tends.2 in
+tends_alone : (n : ℕ) (old new : PacedHostCore) (id : ℕ) (from : Address) (c : Session) (cs' : List Session) (ns ms : ListenerCounts) → Is id from c → TendsOn n true old new (c ∷ []) cs' ns ms → Goes id from (is_ended c) cs'
+tends_alone zero old new id from c cs' ns ms is run = (c, run.1, is, refl)
+tends_alone (suc n) old new id from c cs' ns ms is run =
+    let g = tends_alone n old run.0 id from c run.1 ns run.2 is run.3 in
+    let t : TendsFirst true run.0 new (g.0 ∷ []) cs' run.2 ms None = subst (λ (l : List Session). TendsFirst true run.0 new l cs' run.2 ms None) g.1 run.4 in
+    let h = tended_alone id from g.0 t.session t.place t.tends.0 run.0.moment run.0.endpoint new.endpoint cs' run.2 ms g.2 t.there t.tends.2 in
     (h.0, h.1, h.2, h.3 ∙ g.3)
 
 -- ---- where a host is between two steps
@@ -440,12 +441,12 @@ passed_so old new s cs x y a b steps m (inr o) =
       ),
     )
 
-tended_so : (n : ℕ) (old new : PacedHostCore) (cs cs' : List Session) (steps : List StepView) → TendsOn n true old new cs cs' → So cs steps → So cs' steps
-tended_so n old new cs cs' steps run (inl k) = inl (tends_none n old new cs cs' k.0 run, k.1, k.2)
-tended_so n old new cs cs' steps run (inr o) =
+tended_so : (n : ℕ) (old new : PacedHostCore) (cs cs' : List Session) (ns ms : ListenerCounts) (steps : List StepView) → TendsOn n true old new cs cs' ns ms → So cs steps → So cs' steps
+tended_so n old new cs cs' ns ms steps run (inl k) = inl (tends_none n old new cs cs' ns ms k.0 run, k.1, k.2)
+tended_so n old new cs cs' ns ms steps run (inr o) =
     let g = o.2.1 in
-    let mine : TendsOn n true old new (g.0 ∷ []) cs' = subst (λ (l : List Session). TendsOn n true old new l cs') g.1 run in
-    inr (o.0, o.1, one_goes o.0 o.1 cs cs' steps o.2 (tends_alone n old new o.0 o.1 g.0 cs' g.2 mine))
+    let mine : TendsOn n true old new (g.0 ∷ []) cs' ns ms = subst (λ (l : List Session). TendsOn n true old new l cs' ns ms) g.1 run in
+    inr (o.0, o.1, one_goes o.0 o.1 cs cs' steps o.2 (tends_alone n old new o.0 o.1 g.0 cs' ns ms g.2 mine))
 
 -- ---- one step, and one after another
 
@@ -458,7 +459,7 @@ heard_and_passed old new stop drives peers s steps st so =
 step_so : {K : Type 0} (old new : Host K) (drives : K → Turn → K → Type 0) (peers : Peers) (s : StepView) (steps : List StepView)
     → Steps old new true None drives peers s → So old.sessions steps → So new.sessions (steps ++ s ∷ [])
 step_so old new drives peers s steps st so =
-    tended_so st.tidied.0 st.moved new.core st.still new.sessions (steps ++ s ∷ []) st.tidied.2 (heard_and_passed old new None drives peers s steps st so)
+    tended_so st.tidied.0 st.moved new.core st.still new.sessions st.counted new.counts (steps ++ s ∷ []) st.tidied.2 (heard_and_passed old new None drives peers s steps st so)
 
 run_so : {K : Type 0} (n : ℕ) (old new : Host K) (drives : K → Turn → K → Type 0) (peers : Peers) (steps : List StepView)
     → StepsWithoutStop n old new true drives peers steps → So old.sessions [] → So new.sessions steps
@@ -495,9 +496,9 @@ ends_so : {K : Type 0} (old new : Host K) (drives : K → Turn → K → Type 0)
     → Steps old new true (Some Stops.Ended) drives peers s → So old.sessions steps → (id : ℕ) × (from : Address) × HearsOneOut (steps ++ s ∷ []) id from
 ends_so old new drives peers s steps st so =
     let t = st.tidied in
-    let f = t.5 in
-    let among : So t.3 (steps ++ s ∷ []) = tended_so t.0 st.moved t.2 st.still t.3 (steps ++ s ∷ []) t.4 (heard_and_passed old new (Some Stops.Ended) drives peers s steps st so) in
-    last_so t.3 f.place f.session (steps ++ s ∷ []) f.there (done_ends t.2.moment f.session f.place f.tends.0 t.2.endpoint new.core.endpoint t.3 new.sessions f.tends.2) among
+    let f = t.6 in
+    let among : So t.3 (steps ++ s ∷ []) = tended_so t.0 st.moved t.2 st.still t.3 st.counted t.4 (steps ++ s ∷ []) t.5 (heard_and_passed old new (Some Stops.Ended) drives peers s steps st so) in
+    last_so t.3 f.place f.session (steps ++ s ∷ []) f.there (done_ends t.2.moment f.session f.place f.tends.0 t.2.endpoint new.core.endpoint t.3 new.sessions t.4 new.counts f.tends.2) among
 
 pub heard_out : {K : Type 0} (old new : Host K) (once : Bool) (drives : K → Turn → K → Type 0) (peers : Peers) (steps : List StepView)
     → once ≡ true → old.sessions ≡ [] → Serves old new once Stops.Ended drives peers steps → (id : ℕ) × (from : Address) × HearsOneOut steps id from

@@ -17,6 +17,7 @@ use Rattle.ipx_wire.specs.declared.address.Address.{Address}
 use Rattle.ipx_wire.specs.declared.address.Network.{Network}
 use Rattle.ipx_host.specs.Sessions.{Admits, Asks as IsAsked, Evicts, has_spoken, heard_by, is_at_limit, is_ended, is_of_node, is_unanswered, KeepsHeard, KeepsOne, LetsLinkGo, LetsLinksGo, MakesSpace, once_heard, OnlyEnded, place_of_own, place_of_own_unanswered, place_to_free, without}
 use Rattle.ipx_host.specs.HostOutput.{Writes}
+use Rattle.ipx_host.specs.SessionLogs.{ListenerCounts}
 use Rattle.ipx_host.specs.Tending.{DoesAction, IsActionFor, JustStays, Tends}
 use Rattle.ipx_host.specs.declared.paced_host_core.PacedHostCore.{PacedHostCore}
 use Rattle.ipx_host.specs.ListenOutcomes.{parted}
@@ -421,48 +422,48 @@ asked_ended now old new c c' (inr p) ended = sym (ap (λ (k : Session). k.phase)
 pub same_some : (k c : Session) → Some k ≡ Some c → k ≡ c
 same_some k c e = same_Some k c e
 
-done_alone : (now : ℕ) (k c : Session) (fate : SessionAction) (old new : EndpointView) (cs' : List Session) → k ≡ c → DoesAction true now c 0 fate old new (k ∷ []) cs' None → OnlyEnded cs' → OnlyEnded (k ∷ [])
-done_alone now k c Stays old new cs' at does alone = subst OnlyEnded does.1 alone
-done_alone now k c Asks old new cs' at does alone =
+done_alone : (now : ℕ) (k c : Session) (fate : SessionAction) (old new : EndpointView) (cs' : List Session) (ns ms : ListenerCounts) → k ≡ c → DoesAction true now c 0 fate old new (k ∷ []) cs' ns ms None → OnlyEnded cs' → OnlyEnded (k ∷ [])
+done_alone now k c Stays old new cs' ns ms at does alone = subst OnlyEnded does.1 alone
+done_alone now k c Asks old new cs' ns ms at does alone =
     let same = same_head does.0 alone.0 [] [] (sym does.2 ∙ alone.1) in
     (k, refl, ap (λ (x : Session). x.phase) at ∙ asked_ended now old new c does.0 does.1 (ap (λ (x : Session). x.phase) same.0 ∙ alone.2))
-done_alone now k c Over old new cs' at does alone = let no : [] ≡ alone.0 ∷ [] = sym does.1 ∙ alone.1 in absurd (cc)
-done_alone now k c GivenUp old new cs' at does alone = let no : [] ≡ alone.0 ∷ [] = sym does.1 ∙ alone.1 in absurd (cc)
+done_alone now k c Over old new cs' ns ms at does alone = let no : [] ≡ alone.0 ∷ [] = sym does.1 ∙ alone.1 in absurd (cc)
+done_alone now k c GivenUp old new cs' ns ms at does alone = let no : [] ≡ alone.0 ∷ [] = sym does.1 ∙ alone.1 in absurd (cc)
 
 alone_is_heard : (cs' : List Session) → OnlyEnded cs' → list_any has_spoken cs' ≡ true
 alone_is_heard cs' alone =
     any_ended cs' (ap (list_any is_ended) alone.1 ∙ ap (λ (x : Phase). ends x || false) alone.2)
 
-done_among : (now : ℕ) (k j c : Session) (ks : List Session) (place : ℕ) (fate : SessionAction) (old new : EndpointView) (cs' : List Session) → (list_any has_spoken (k ∷ j ∷ ks) ≡ true → length (k ∷ j ∷ ks) ≡ 1)
-    → DoesAction true now c place fate old new (k ∷ j ∷ ks) cs' None → OnlyEnded cs' → OnlyEnded (k ∷ j ∷ ks)
-done_among now k j c ks place Stays old new cs' one does alone = subst OnlyEnded does.1 alone
-done_among now k j c ks place Asks old new cs' one does alone =
+done_among : (now : ℕ) (k j c : Session) (ks : List Session) (place : ℕ) (fate : SessionAction) (old new : EndpointView) (cs' : List Session) (ns ms : ListenerCounts) → (list_any has_spoken (k ∷ j ∷ ks) ≡ true → length (k ∷ j ∷ ks) ≡ 1)
+    → DoesAction true now c place fate old new (k ∷ j ∷ ks) cs' ns ms None → OnlyEnded cs' → OnlyEnded (k ∷ j ∷ ks)
+done_among now k j c ks place Stays old new cs' ns ms one does alone = subst OnlyEnded does.1 alone
+done_among now k j c ks place Asks old new cs' ns ms one does alone =
     absurd (omega (arith, ap length does.2, ap length alone.1, length-set (k ∷ j ∷ ks) place does.0))
-done_among now k j c ks place Over old new cs' one does alone =
+done_among now k j c ks place Over old new cs' ns ms one does alone =
     absurd (omega (arith, one (any_removed has_spoken (k ∷ j ∷ ks) place (sym (ap (list_any has_spoken) does.1) ∙ alone_is_heard cs' alone))))
-done_among now k j c ks place GivenUp old new cs' one does alone =
+done_among now k j c ks place GivenUp old new cs' ns ms one does alone =
     absurd (omega (arith, one (any_removed has_spoken (k ∷ j ∷ ks) place (sym (ap (list_any has_spoken) does.1) ∙ alone_is_heard cs' alone))))
 
 -- with `once`, where all goes on, the only connection is ended just where it was
-tended_in : (core : PacedHostCore) (new : EndpointView) (cs cs' : List Session) (place : ℕ) (c : Session) → place < length cs → slice_get cs place ≡ Some c
-    → (list_any has_spoken cs ≡ true → length cs ≡ 1) → Tends true core c place new cs cs' None → OnlyEnded cs' → OnlyEnded cs
-tended_in core new [] cs' place c within at one tends alone = absurd (omega arith)
-tended_in core new (k ∷ []) cs' zero c within at one tends alone = done_alone core.moment k c tends.0 core.endpoint new cs' (same_some k c at) tends.2 alone
-tended_in core new (k ∷ []) cs' (suc n) c within at one tends alone = absurd (omega arith)
-tended_in core new (k ∷ j ∷ ks) cs' place c within at one tends alone = done_among core.moment k j c ks place tends.0 core.endpoint new cs' one tends.2 alone
+tended_in : (core : PacedHostCore) (new : EndpointView) (cs cs' : List Session) (ns ms : ListenerCounts) (place : ℕ) (c : Session) → place < length cs → slice_get cs place ≡ Some c
+    → (list_any has_spoken cs ≡ true → length cs ≡ 1) → Tends true core c place new cs cs' ns ms None → OnlyEnded cs' → OnlyEnded cs
+tended_in core new [] cs' ns ms place c within at one tends alone = absurd (omega arith)
+tended_in core new (k ∷ []) cs' ns ms zero c within at one tends alone = done_alone core.moment k c tends.0 core.endpoint new cs' ns ms (same_some k c at) tends.2 alone
+tended_in core new (k ∷ []) cs' ns ms (suc n) c within at one tends alone = absurd (omega arith)
+tended_in core new (k ∷ j ∷ ks) cs' ns ms place c within at one tends alone = done_among core.moment k j c ks place tends.0 core.endpoint new cs' ns ms one tends.2 alone
 
 there_is : (cs : List Session) (place : ℕ) → place < length cs → (c : Session) × (slice_get cs place ≡ Some c)
 there_is [] place within = absurd (omega arith)
 there_is (c ∷ cs) zero within = (c, refl)
 there_is (c ∷ cs) (suc n) within = there_is cs n (omega arith)
 
-pub tended_on : (once : Bool) (core : PacedHostCore) (new : EndpointView) (cs cs' : List Session) (left : List ℕ) (place : ℕ) → IsTrue once → place < length cs → KeepsOne once cs left
-    → IfSome (slice_get cs place) (λ c. Tends once core c place new cs cs' None) → OnlyEnded cs' → OnlyEnded cs
-tended_on false core new cs cs' left place is within keeps tends alone = absurd (cc)
-tended_on true core new cs cs' left place is within keeps tends alone =
+pub tended_on : (once : Bool) (core : PacedHostCore) (new : EndpointView) (cs cs' : List Session) (ns ms : ListenerCounts) (left : List ℕ) (place : ℕ) → IsTrue once → place < length cs → KeepsOne once cs left
+    → IfSome (slice_get cs place) (λ c. Tends once core c place new cs cs' ns ms None) → OnlyEnded cs' → OnlyEnded cs
+tended_on false core new cs cs' ns ms left place is within keeps tends alone = absurd (cc)
+tended_on true core new cs cs' ns ms left place is within keeps tends alone =
     let at = there_is cs place within in
-    let here : Tends true core at.0 place new cs cs' None = subst (λ (o : Option Session). IfSome o (λ c. Tends true core c place new cs cs' None)) at.1 tends in
-    tended_in core new cs cs' place at.0 within at.1 keeps.0 here alone
+    let here : Tends true core at.0 place new cs cs' ns ms None = subst (λ (o : Option Session). IfSome o (λ c. Tends true core c place new cs cs' ns ms None)) at.1 tends in
+    tended_in core new cs cs' ns ms place at.0 within at.1 keeps.0 here alone
 
 -- what an error was that was passed on
 pub stop_is : {T : Type 0} (r : Result T ListenOutcome) (y s stop : ListenOutcome) → r ≡ Err y → y ≡ s → r ≡ Err stop → s ≡ stop
@@ -471,11 +472,11 @@ stop_is r y s stop at same e =
     (cc)
 
 -- and where all ends well, it was
-pub done_ends : (now : ℕ) (c : Session) (place : ℕ) (fate : SessionAction) (old new : EndpointView) (cs cs' : List Session) → DoesAction true now c place fate old new cs cs' (Some Stops.Ended) → c.phase ≡ Standings.Ended
-done_ends now c place Stays old new cs cs' does = let no : Some Stops.Ended ≡ None = does.2 in absurd (cc)
-done_ends now c place Asks old new cs cs' does = let no : Some Stops.Ended ≡ None = does.3 in absurd (cc)
-done_ends now c place Over old new cs cs' does = parted_ended Over c.phase does.2
-done_ends now c place GivenUp old new cs cs' does = parted_ended GivenUp c.phase does.2
+pub done_ends : (now : ℕ) (c : Session) (place : ℕ) (fate : SessionAction) (old new : EndpointView) (cs cs' : List Session) (ns ms : ListenerCounts) → DoesAction true now c place fate old new cs cs' ns ms (Some Stops.Ended) → c.phase ≡ Standings.Ended
+done_ends now c place Stays old new cs cs' ns ms does = let no : Some Stops.Ended ≡ None = does.2 in absurd (cc)
+done_ends now c place Asks old new cs cs' ns ms does = let no : Some Stops.Ended ≡ None = does.3 in absurd (cc)
+done_ends now c place Over old new cs cs' ns ms does = parted_ended Over c.phase does.2
+done_ends now c place GivenUp old new cs cs' ns ms does = parted_ended GivenUp c.phase does.2
 
 ends_alone : (cs : List Session) (place : ℕ) (c : Session) → place < length cs → slice_get cs place ≡ Some c → c.phase ≡ Standings.Ended → (list_any has_spoken cs ≡ true → length cs ≡ 1) → OnlyEnded cs
 ends_alone [] place c within at ended one = absurd (omega arith)
@@ -485,13 +486,13 @@ ends_alone (k ∷ j ∷ ks) place c within at ended one =
     let here : get_or (k ∷ j ∷ ks) place k ≡ c = get_or_from_slice_get (k ∷ j ∷ ks) place c k at in
     absurd (omega (arith, one (any_at has_spoken (k ∷ j ∷ ks) place k within (ap has_spoken here ∙ ap (λ (x : Phase). not (is_unheard x)) ended))))
 
-pub tended_ends : (once : Bool) (core : PacedHostCore) (new : EndpointView) (cs cs' : List Session) (left : List ℕ) (place : ℕ) → IsTrue once → place < length cs → KeepsOne once cs left
-    → IfSome (slice_get cs place) (λ c. Tends once core c place new cs cs' (Some Stops.Ended)) → OnlyEnded cs
-tended_ends false core new cs cs' left place is within keeps tends = absurd (cc)
-tended_ends true core new cs cs' left place is within keeps tends =
+pub tended_ends : (once : Bool) (core : PacedHostCore) (new : EndpointView) (cs cs' : List Session) (ns ms : ListenerCounts) (left : List ℕ) (place : ℕ) → IsTrue once → place < length cs → KeepsOne once cs left
+    → IfSome (slice_get cs place) (λ c. Tends once core c place new cs cs' ns ms (Some Stops.Ended)) → OnlyEnded cs
+tended_ends false core new cs cs' ns ms left place is within keeps tends = absurd (cc)
+tended_ends true core new cs cs' ns ms left place is within keeps tends =
     let at = there_is cs place within in
-    let here : Tends true core at.0 place new cs cs' (Some Stops.Ended) = subst (λ (o : Option Session). IfSome o (λ c. Tends true core c place new cs cs' (Some Stops.Ended))) at.1 tends in
-    ends_alone cs place at.0 within at.1 (done_ends core.moment at.0 place here.0 core.endpoint new cs cs' here.2) keeps.0
+    let here : Tends true core at.0 place new cs cs' ns ms (Some Stops.Ended) = subst (λ (o : Option Session). IfSome o (λ c. Tends true core c place new cs cs' ns ms (Some Stops.Ended))) at.1 tends in
+    ends_alone cs place at.0 within at.1 (done_ends core.moment at.0 place here.0 core.endpoint new cs cs' ns ms here.2) keeps.0
 
 -- ---- links that go, one after another
 

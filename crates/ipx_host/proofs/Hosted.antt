@@ -12,6 +12,9 @@ use Rattle.ipx_wire.specs.declared.address.Socket.{Socket}
 use Rattle.spx_messages.specs.EndpointView.{EndpointView, Held, buffers_at, held_at}
 use Rattle.ipx_host.specs.Hosting.{HearsAndNotesAll, Host, ListensWell, WritesAndPasses, MovesSome, MovesUntilFull, Serves, ServesWell, StepView, Steps, StepsWithoutStop, StepsTo, WriterBreaksOff, bytes_of, host, takes_of}
 use Rattle.ipx_host.specs.HostOutput.{Writes, left_of}
+use Rattle.ipx_host.specs.Midway.{counts_at}
+use Rattle.ipx_host.specs.SessionLogs.{ListenerCounts, nothing_counted}
+use Rattle.ipx_host.specs.declared.serving.Sessions.{Sessions}
 use Rattle.ipx_host.specs.Passing.{PassesEach, PassesFrom, PassesSome, PassesUntilFull, Take, bodies_after, bodies_of, held_after, left_with, takes_after, takes_each, takes_from}
 use Rattle.ipx_host.specs.ListenOutcomes.{parted, stop_status}
 use Rattle.ipx_host.specs.Turning.{TakesHostTurn}
@@ -36,28 +39,29 @@ some_at [] place within = absurd (omega arith)
 some_at (c ∷ cs) zero within = (c, refl)
 some_at (c ∷ cs) (suc n) within = some_at cs n (omega arith)
 
-pub tended_first : (once once' : Bool) (old new : PacedHostCore) (cs cs' : List Session) (stop : Option ListenOutcome) (place : ℕ) → once' ≡ once → place < length cs
+pub tended_first : (once once' : Bool) (old new : PacedHostCore) (cs cs' : List Session) (ns ms : ListenerCounts) (stop : Option ListenOutcome) (place : ℕ) → once' ≡ once → place < length cs
     → All (JustStays old) (take place cs) × IfSome (slice_get cs place) (λ c. JustStays old c → ⊥)
-    → IfSome (slice_get cs place) (λ c. Tends once' old c place new.endpoint cs cs' stop) → new ≡ record old { endpoint = new.endpoint }
-    → TendsFirst once old new cs cs' stop
-tended_first once once' old new cs cs' stop place same within first tends core =
+    → IfSome (slice_get cs place) (λ c. Tends once' old c place new.endpoint cs cs' ns ms stop) → new ≡ record old { endpoint = new.endpoint }
+    → TendsFirst once old new cs cs' ns ms stop
+tended_first once once' old new cs cs' ns ms stop place same within first tends core =
     let at = some_at cs place within in
-    let here : Tends once' old at.0 place new.endpoint cs cs' stop = subst (λ (o : Option Session). IfSome o (λ c. Tends once' old c place new.endpoint cs cs' stop)) at.1 tends in
+    let here : Tends once' old at.0 place new.endpoint cs cs' ns ms stop = subst (λ (o : Option Session). IfSome o (λ c. Tends once' old c place new.endpoint cs cs' ns ms stop)) at.1 tends in
     record {
       place = place;
       session = at.0;
       there = at.1;
       first = first.0;
       something = subst (λ (o : Option Session). IfSome o (λ c. JustStays old c → ⊥)) at.1 first.1;
-      tends = subst (λ (b : Bool). Tends b old at.0 place new.endpoint cs cs' stop) same here;
+      tends = subst (λ (b : Bool). Tends b old at.0 place new.endpoint cs cs' ns ms stop) same here;
       core = core;
     }
 
 -- one more
-pub tends_more : (once : Bool) (first mid new : PacedHostCore) (cs ms ns : List Session) (n : ℕ) → TendsOn n once first mid cs ms → TendsFirst once mid new ms ns None → TendsOn (n + 1) once first new cs ns
-tends_more once first mid new cs ms ns n run one =
+pub tends_more : (once : Bool) (first mid new : PacedHostCore) (cs ds es : List Session) (ns ms ks : ListenerCounts) (n : ℕ) → TendsOn n once first mid cs ds ns ms → TendsFirst once mid new ds es ms ks None
+    → TendsOn (n + 1) once first new cs es ns ks
+tends_more once first mid new cs ds es ns ms ks n run one =
     let next : suc n ≡ n + 1 = omega arith in
-    subst (λ (k : ℕ). TendsOn k once first new cs ns) next (mid, ms, run, one)
+    subst (λ (k : ℕ). TendsOn k once first new cs es ns ks) next (mid, ds, ms, run, one)
 
 -- what stops a host as it is tidied is that a connection parts
 abbrev pub IsParting : Option ListenOutcome → Type 0
@@ -84,17 +88,17 @@ parts true ActionsOfSessions.Asks Standings.Ended = tt
 parts true ActionsOfSessions.Over Standings.Ended = tt
 parts true ActionsOfSessions.GivenUp Standings.Ended = tt
 
-does_part : (once : Bool) (now : ℕ) (c : Session) (place : ℕ) (fate : SessionAction) (old new : EndpointView) (cs cs' : List Session) (stop : Option ListenOutcome)
-    → DoesAction once now c place fate old new cs cs' stop → IsParting stop
-does_part once now c place ActionsOfSessions.Stays old new cs cs' stop does = subst IsParting (sym does.2) tt
-does_part once now c place ActionsOfSessions.Asks old new cs cs' stop does = subst IsParting (sym does.3) tt
-does_part once now c place ActionsOfSessions.Over old new cs cs' stop does = subst IsParting (sym does.2) (parts once ActionsOfSessions.Over c.phase)
-does_part once now c place ActionsOfSessions.GivenUp old new cs cs' stop does = subst IsParting (sym does.2) (parts once ActionsOfSessions.GivenUp c.phase)
+does_part : (once : Bool) (now : ℕ) (c : Session) (place : ℕ) (fate : SessionAction) (old new : EndpointView) (cs cs' : List Session) (ns ms : ListenerCounts) (stop : Option ListenOutcome)
+    → DoesAction once now c place fate old new cs cs' ns ms stop → IsParting stop
+does_part once now c place ActionsOfSessions.Stays old new cs cs' ns ms stop does = subst IsParting (sym does.2) tt
+does_part once now c place ActionsOfSessions.Asks old new cs cs' ns ms stop does = subst IsParting (sym does.3) tt
+does_part once now c place ActionsOfSessions.Over old new cs cs' ns ms stop does = subst IsParting (sym does.2) (parts once ActionsOfSessions.Over c.phase)
+does_part once now c place ActionsOfSessions.GivenUp old new cs cs' ns ms stop does = subst IsParting (sym does.2) (parts once ActionsOfSessions.GivenUp c.phase)
 
-pub tidied_parts : (once : Bool) (old new : PacedHostCore) (cs cs' : List Session) (stop : ListenOutcome) → Tidies once old new cs cs' (Some stop) → IsParting (Some stop)
-tidied_parts once old new cs cs' stop tidied =
-    let last = tidied.5 in
-    does_part once tidied.2.moment last.session last.place last.tends.0 tidied.2.endpoint new.endpoint tidied.3 cs' (Some stop) last.tends.2
+pub tidied_parts : (once : Bool) (old new : PacedHostCore) (cs cs' : List Session) (ns ms : ListenerCounts) (stop : ListenOutcome) → Tidies once old new cs cs' ns ms (Some stop) → IsParting (Some stop)
+tidied_parts once old new cs cs' ns ms stop tidied =
+    let last = tidied.6 in
+    does_part once tidied.2.moment last.session last.place last.tends.0 tidied.2.endpoint new.endpoint tidied.3 cs' tidied.4 ms (Some stop) last.tends.2
 
 -- ---- what passes
 
@@ -178,47 +182,52 @@ moved_none core cs x y a b wrote = moved_some core core cs cs x y y a b b wrote 
 
 -- ---- one step
 
-pub stepped : {K : Type 0} (around around1 around2 around3 : K) (core core1 core2 core3 : PacedHostCore) (cs cs1 cs2 cs3 : List Session) (o o1 o2 o3 : Outlet) (once once' : Bool) (a b : Option (List ℕ))
+-- what was counted of connections is the same as long as nothing is counted
+pub same_counts : (r r' : ℕ) (old new : Sessions) → r' ≡ r → new.never_heard ≡ old.never_heard → new.evicted ≡ old.evicted → new.turned_away ≡ old.turned_away
+    → (new.of_never_heard ≡ old.of_never_heard) × (new.of_evicted ≡ old.of_evicted) × (new.of_turned_away ≡ old.of_turned_away)
+    → counts_at r' new ≡ counts_at r old
+same_counts r r' old new is never_heard evicted turned_away logs = let a = logs.0 in let b = logs.1 in let d = logs.2 in cc
+
+pub stepped : {K : Type 0} (around around1 around2 around3 : K) (core core1 core2 core3 : PacedHostCore) (cs cs1 cs2 cs3 : List Session) (o o1 o2 o3 : Outlet) (ns ns1 ns2 ns3 : ListenerCounts) (once once' : Bool) (a b : Option (List ℕ))
     (stop : Option ListenOutcome) (drives : K → Turn → K → Type 0) (peers : Peers) (takes : List Take) (active : Bool)
-    → (hears : HearsAndNotesAll around around1 core core1 cs cs1 once drives peers) → active ≡ hears.turn.active → o1 ≡ o → around2 ≡ around1 → once' ≡ once
-    → MovesUntilFull core1 core2 cs1 cs2 (left_of o1) (left_of o2) a b takes → around3 ≡ around2 → o3 ≡ o2 → Tidies once' core2 core3 cs2 cs3 stop
-    → Steps (host around core cs (left_of o) a) (host around3 core3 cs3 (left_of o3) b) once stop drives peers (record { active = active; there = cs1; takes = takes })
-stepped {K} around around1 around2 around3 core core1 core2 core3 cs cs1 cs2 cs3 o o1 o2 o3 once once' a b stop drives peers takes active hears did unheard ticks same moves tidied unwritten tidies =
-    record {
+    → (hears : HearsAndNotesAll around around1 core core1 cs cs1 ns ns1 once drives peers) → active ≡ hears.turn.active → o1 ≡ o → around2 ≡ around1 → once' ≡ once
+    → MovesUntilFull core1 core2 cs1 cs2 (left_of o1) (left_of o2) a b takes → ns2 ≡ ns1 → around3 ≡ around2 → o3 ≡ o2 → Tidies once' core2 core3 cs2 cs3 ns2 ns3 stop
+    → Steps (host around core cs (left_of o) a ns) (host around3 core3 cs3 (left_of o3) b ns3) once stop drives peers (record { active = active; there = cs1; takes = takes })
+stepped {K} around around1 around2 around3 core core1 core2 core3 cs cs1 cs2 cs3 o o1 o2 o3 ns ns1 ns2 ns3 once once' a b stop drives peers takes active hears did unheard ticks same moves uncounted tidied unwritten tidies =
+    subst (λ (k : K). Steps (host around core cs (left_of o) a ns) (host k core3 cs3 (left_of o3) b ns3) once stop drives peers (record { active = active; there = cs1; takes = takes })) (sym (tidied ∙ ticks))
+    (record {
       heard = core1;
-      hears = record {
-        seen = hears.seen;
-        turn = hears.turn;
-        turned = subst (λ (k : K). TakesHostTurn around k drives peers core hears.seen hears.turn) (sym (tidied ∙ ticks)) hears.turned;
-        noted = hears.noted;
-      };
+      counted = ns1;
+      hears = hears;
       active = did;
       moved = core2;
       still = cs2;
       moves = subst (λ (k : Outlet). MovesUntilFull core1 core2 cs1 cs2 (left_of k) (left_of o3) a b takes) unheard
           (subst (λ (k : Outlet). MovesUntilFull core1 core2 cs1 cs2 (left_of o1) (left_of k) a b takes) (sym unwritten) moves);
-      tidied = subst (λ (k : Bool). Tidies k core2 core3 cs2 cs3 stop) same tidies;
-    }
+      tidied = subst (λ (k : Bool). Tidies k core2 core3 cs2 cs3 ns1 ns3 stop) same (subst (λ (k : ListenerCounts). Tidies once' core2 core3 cs2 cs3 k ns3 stop) uncounted tidies);
+    })
 
 -- and one that the writer breaks off
-pub broken_off : {K : Type 0} (around around1 : K) (core core1 core2 : PacedHostCore) (cs cs1 cs2 : List Session) (o o1 o2 : Outlet) (once : Bool) (a b : Option (List ℕ))
-    (drives : K → Turn → K → Type 0) (peers : Peers) (takes : List Take) (active : Bool) → (hears : HearsAndNotesAll around around1 core core1 cs cs1 once drives peers) → active ≡ hears.turn.active → o1 ≡ o
-    → MovesSome core1 core2 cs1 cs2 (left_of o1) (left_of o2) a b takes
-    → WriterBreaksOff (host around core cs (left_of o) a) (host around1 core2 cs2 (left_of o2) b) once drives peers (record { active = active; there = cs1; takes = takes })
-broken_off around around1 core core1 core2 cs cs1 cs2 o o1 o2 once a b drives peers takes active hears did unheard moves = record {
-  heard = core1;
-  hears = hears;
-  active = did;
-  moves = subst (λ (k : Outlet). MovesSome core1 core2 cs1 cs2 (left_of k) (left_of o2) a b takes) unheard moves;
-}
+pub broken_off : {K : Type 0} (around around1 : K) (core core1 core2 : PacedHostCore) (cs cs1 cs2 : List Session) (o o1 o2 : Outlet) (ns ns1 ns2 : ListenerCounts) (once : Bool) (a b : Option (List ℕ))
+    (drives : K → Turn → K → Type 0) (peers : Peers) (takes : List Take) (active : Bool) → (hears : HearsAndNotesAll around around1 core core1 cs cs1 ns ns1 once drives peers) → active ≡ hears.turn.active → o1 ≡ o
+    → MovesSome core1 core2 cs1 cs2 (left_of o1) (left_of o2) a b takes → ns2 ≡ ns1
+    → WriterBreaksOff (host around core cs (left_of o) a ns) (host around1 core2 cs2 (left_of o2) b ns2) once drives peers (record { active = active; there = cs1; takes = takes })
+broken_off {K} around around1 core core1 core2 cs cs1 cs2 o o1 o2 ns ns1 ns2 once a b drives peers takes active hears did unheard moves uncounted =
+    subst (λ (k : ListenerCounts). WriterBreaksOff (host around core cs (left_of o) a ns) (host around1 core2 cs2 (left_of o2) b k) once drives peers (record { active = active; there = cs1; takes = takes })) (sym uncounted)
+    (record {
+      heard = core1;
+      hears = hears;
+      active = did;
+      moves = subst (λ (k : Outlet). MovesSome core1 core2 cs1 cs2 (left_of k) (left_of o2) a b takes) unheard moves;
+    })
 
 -- a step that is tidied stops the host so
 pub tidied_to : {K : Type 0} (old new : Host K) (once : Bool) (stop : ListenOutcome) (drives : K → Turn → K → Type 0) (peers : Peers) (step : StepView)
     → Steps old new once (Some stop) drives peers step → StepsTo old new once (Some stop) drives peers step
 tidied_to old new once Ended drives peers step s = s
 tidied_to old new once Lost drives peers step s = s
-tidied_to old new once Unwritten drives peers step s = absurd (tidied_parts once s.moved new.core s.still new.sessions Unwritten s.tidied)
-tidied_to old new once Unwaited drives peers step s = absurd (tidied_parts once s.moved new.core s.still new.sessions Unwaited s.tidied)
+tidied_to old new once Unwritten drives peers step s = absurd (tidied_parts once s.moved new.core s.still new.sessions s.counted new.counts Unwritten s.tidied)
+tidied_to old new once Unwaited drives peers step s = absurd (tidied_parts once s.moved new.core s.still new.sessions s.counted new.counts Unwaited s.tidied)
 
 -- ---- one step after another
 
@@ -301,12 +310,12 @@ pub begun : {K T E : Type 0} (file : HostConfig) (X : Type 0) (P : K → Type 0)
     → IfOk started (λ l. (s : Socket) → s.0 ≢ file.socket.0 → buffers_at (at l).core.endpoint s ≡ None)
     → IfOk started (λ l. (id : ℕ) → held_at (at l).core.endpoint id ≡ None) → IfOk started (λ l. (at l).core.came ≡ None) → IfOk started (λ l. (at l).core.paced ≡ None)
     → IfOk started (λ l. named_in (at l).core.from ≡ named_in file.from) → IfOk started (λ l. (at l).core.network ≡ file.network)
-    → IfOk started (λ l. (at l).sessions ≡ []) → IfOk started (λ l. (at l).left ≡ []) → IfOk started (λ l. its l ≡ once) → IfOk started (λ l. P (at l).around) → ((l : T) → (at l).written ≡ a)
+    → IfOk started (λ l. (at l).sessions ≡ []) → IfOk started (λ l. (at l).left ≡ []) → IfOk started (λ l. its l ≡ once) → IfOk started (λ l. P (at l).around) → IfOk started (λ l. (at l).counts ≡ nothing_counted) → ((l : T) → (at l).written ≡ a)
     → OnErr started ((status ≡ 1) × X) → (status ≡ 0 → IfOk started (λ l. IsTrue (its l))) → (status ≡ 0 → IfOk started (λ l. (steps : List StepView) × ServesWell (at l) (its l) b drives (among l) steps)) → status ≡ 0
     → (w : ListensWell file once a b drives) × P w.start.around
-begun file X P (Err e) at its among once a b drives status network node router routed listens alone links accepted unpaced from own nobody nothing same opened written unstarted only well ends =
+begun file X P (Err e) at its among once a b drives status network node router routed listens alone links accepted unpaced from own nobody nothing same opened uncounted written unstarted only well ends =
     absurd (omega (arith, unstarted.0, ends))
-begun {K} file X P (Ok l) at its among once a b drives status network node router routed listens alone links accepted unpaced from own nobody nothing same opened written unstarted only well ends =
+begun {K} file X P (Ok l) at its among once a b drives status network node router routed listens alone links accepted unpaced from own nobody nothing same opened uncounted written unstarted only well ends =
     let run = well ends in
     let took : Appends (at l).written b ((at l).left ++ bytes_of run.0) = run.1.4 in
     let bare : Appends (at l).written b (bytes_of run.0) = subst (λ (x : List ℕ). Appends (at l).written b (x ++ bytes_of run.0)) nothing took in
@@ -330,6 +339,7 @@ begun {K} file X P (Ok l) at its among once a b drives status network node route
           nobody = nobody;
           nothing = nothing;
           known = written l;
+          uncounted = uncounted;
         };
         serves = subst (λ (o : Bool). ServesWell (at l) o b drives (among l) run.0) same run.1;
         id = one.0;

@@ -15,6 +15,7 @@ use Rattle.spx_link.specs.declared.state.State.{State}
 use Rattle.spx_link.specs.declared.state.State.TheVariants as States
 use Rattle.spx_messages.specs.EndpointView.{EndpointView}
 use Rattle.ipx_host.specs.declared.running_host.Activity.{Activity}
+use Rattle.ipx_host.specs.SessionLogs.{ListenerCounts}
 use Rattle.ipx_host.specs.Tending.{Tidies}
 use Rattle.ipx_host.specs.declared.listening.ListenOutcome.{ListenOutcome}
 use Rattle.ipx_host.specs.declared.listening.ListenOutcome.TheVariants as Stops
@@ -89,10 +90,10 @@ send_fault old new f drives peers id waits s =
 
 -- ---- nor does one of a listener
 
-pub stopped : {T : Type 0} (once : Bool) (old new : PacedHostCore) (cs cs' : List Session) (stop : ListenOutcome) (r : Result T ListenOutcome) → Tidies once old new cs cs' (Some stop)
+pub stopped : {T : Type 0} (once : Bool) (old new : PacedHostCore) (cs cs' : List Session) (ns ms : ListenerCounts) (stop : ListenOutcome) (r : Result T ListenOutcome) → Tidies once old new cs cs' ns ms (Some stop)
     → r ≡ Err stop → r ≡ Err Stops.Unwaited → ⊥
-stopped once old new cs cs' stop r tidied at is =
-    subst (λ (s : ListenOutcome). IsParting (Some s)) (err_is stop Stops.Unwaited r at is) (tidied_parts once old new cs cs' stop tidied)
+stopped once old new cs cs' ns ms stop r tidied at is =
+    subst (λ (s : ListenOutcome). IsParting (Some s)) (err_is stop Stops.Unwaited r at is) (tidied_parts once old new cs cs' ns ms stop tidied)
 
 -- ---- other outcomes
 

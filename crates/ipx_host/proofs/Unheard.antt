@@ -1,5 +1,5 @@
 -- A connection that goes, and how many of those that go were never heard from.
-use Rattle.std.proofs.Common.{◌≡◌, ℕ, zero, ◌+◌, ◌<◌, ◌⊎◌, Bool, true, false, cond, List, length, get_or, Option, Some, inl, inr, refl, sym, ap, ◌∙◌, subst, arith}
+use Rattle.std.proofs.Common.{◌≡◌, ℕ, zero, ◌+◌, ◌<◌, ◌⊎◌, Bool, true, false, cond, List, length, get_or, Option, None, Some, inl, inr, refl, sym, ap, ◌∙◌, subst, arith}
 use Rattle.std.proofs.lemmas.List.Sums.{sum_by-remove, sum_by-set}
 use Rattle.std.proofs.lemmas.Option.{slice_get-get_or}
 use Rattle.std.specs.Prelude.{IfSome, remove, slice_get, slice_set}
@@ -8,7 +8,10 @@ use Rattle.spx_messages.specs.EndpointView.{EndpointView}
 use Rattle.ipx_host.specs.SessionActions.{is_unheard}
 use Rattle.ipx_host.specs.ListenOutcomes.{parted}
 use Rattle.ipx_host.specs.Tending.{IsActionFor, Tends}
-use Rattle.ipx_host.specs.Sessions.{Asks, CountsUnheard, LetsLinkGo, raised_if, unheard_in}
+use Rattle.ipx_host.specs.Sessions.{Asks, CountsUnheard, IsAskedUnless, LetsLinkGo, raised_if, unheard_in}
+use Rattle.ipx_host.specs.Midway.{counts_at}
+use Rattle.ipx_host.specs.SessionLogs.{ListenerCounts, with_gone, with_refused}
+use Rattle.ipx_host.specs.declared.serving.Sessions.{Sessions}
 use Rattle.ipx_host.specs.declared.listening.ListenOutcome.{ListenOutcome}
 use Rattle.ipx_host.specs.declared.paced_host_core.PacedHostCore.{PacedHostCore}
 use Rattle.ipx_host.specs.declared.sessions.Session.{Session}
@@ -70,14 +73,14 @@ asks_unheard now old new c c' (inl p) = ap (λ (k : Session). is_unheard k.phase
 asks_unheard now old new c c' (inr p) = ap (λ (k : Session). is_unheard k.phase) p.1
 
 -- one is probed
-pub probed : (cs cs' : List Session) (place now n n' : ℕ) (old new : EndpointView) → place < length cs
-    → IfSome (slice_get cs place) (λ c. (c' : Session) × Asks now old new c c' × (cs' ≡ slice_set cs place c')) → n' ≡ n
+pub probed : (cs cs' : List Session) (place now n n' r r' : ℕ) (old new : EndpointView) → place < length cs
+    → IfSome (slice_get cs place) (λ c. (c' : Session) × Asks now old new c c' × (cs' ≡ slice_set cs place c') × (refused : Bool) × IsAskedUnless refused old new c c' × (r' ≡ raised_if refused r)) → n' ≡ n
     → CountsUnheard cs cs' n n'
-probed cs cs' place now n n' old new within asks same =
+probed cs cs' place now n n' r r' old new within asks same =
     let at = some_at cs place within in
     let c = at.0 in
-    let here : (c' : Session) × Asks now old new c c' × (cs' ≡ slice_set cs place c') =
-    subst (λ (o : Option Session). IfSome o (λ k. (c' : Session) × Asks now old new k c' × (cs' ≡ slice_set cs place c'))) at.1 asks in
+    let here : (c' : Session) × Asks now old new c c' × (cs' ≡ slice_set cs place c') × (refused : Bool) × IsAskedUnless refused old new c c' × (r' ≡ raised_if refused r) =
+    subst (λ (o : Option Session). IfSome o (λ k. (c' : Session) × Asks now old new k c' × (cs' ≡ slice_set cs place c') × (refused : Bool) × IsAskedUnless refused old new k c' × (r' ≡ raised_if refused r))) at.1 asks in
     let is : cond (is_unheard here.0.phase) 1 0 ≡ cond (is_unheard c.phase) 1 0 = ap {B = ℕ} (λ (b : Bool). cond b 1 0) (asks_unheard now old new c here.0 here.1) in
     let sum : unheard_in (slice_set cs place here.0) + cond (is_unheard c.phase) 1 0 ≡ unheard_in cs + cond (is_unheard here.0.phase) 1 0 =
     subst (λ (k : Session). unheard_in (slice_set cs place here.0) + cond (is_unheard k.phase) 1 0 ≡ unheard_in cs + cond (is_unheard here.0.phase) 1 0)
@@ -87,22 +90,51 @@ probed cs cs' place now n n' old new within asks same =
 
 -- ---- one whose action is that it goes
 
-goes : (once : Bool) (core : PacedHostCore) (new : EndpointView) (cs cs' : List Session) (place : ℕ) (k : Session) (fate : SessionAction) (stop : Option ListenOutcome)
+goes : (once : Bool) (core : PacedHostCore) (new : EndpointView) (cs cs' : List Session) (place : ℕ) (k : Session) (fate : SessionAction) (ns ms : ListenerCounts) (stop : Option ListenOutcome)
     → (fate ≡ ActionsOfSessions.Stays → ⊥) → (fate ≡ ActionsOfSessions.Asks → ⊥) → IsActionFor core k fate → LetsLinkGo core.endpoint new k.id → cs' ≡ remove cs place
-    → stop ≡ parted once fate k.phase → Tends once core k place new cs cs' stop
-goes once core new cs cs' place k ActionsOfSessions.Stays stop stays asks due link gone stops = absurd (stays refl)
-goes once core new cs cs' place k ActionsOfSessions.Asks stop stays asks due link gone stops = absurd (asks refl)
-goes once core new cs cs' place k ActionsOfSessions.Over stop stays asks due link gone stops =
-    (ActionsOfSessions.Over, due, (link, gone, stops))
-goes once core new cs cs' place k ActionsOfSessions.GivenUp stop stays asks due link gone stops =
-    (ActionsOfSessions.GivenUp, due, (link, gone, stops))
+    → stop ≡ parted once fate k.phase → ms ≡ with_gone k ns → Tends once core k place new cs cs' ns ms stop
+goes once core new cs cs' place k ActionsOfSessions.Stays ns ms stop stays asks due link gone stops counts = absurd (stays refl)
+goes once core new cs cs' place k ActionsOfSessions.Asks ns ms stop stays asks due link gone stops counts = absurd (asks refl)
+goes once core new cs cs' place k ActionsOfSessions.Over ns ms stop stays asks due link gone stops counts =
+    (ActionsOfSessions.Over, due, (link, gone, stops, counts))
+goes once core new cs cs' place k ActionsOfSessions.GivenUp ns ms stop stays asks due link gone stops counts =
+    (ActionsOfSessions.GivenUp, due, (link, gone, stops, counts))
 
-pub goes_tended : (once : Bool) (core : PacedHostCore) (new : EndpointView) (cs cs' : List Session) (place : ℕ) (k : Session) (fate : SessionAction) (stop : Option ListenOutcome)
+pub goes_tended : (once : Bool) (core : PacedHostCore) (new : EndpointView) (cs cs' : List Session) (place : ℕ) (k : Session) (fate : SessionAction) (ns ms : ListenerCounts) (stop : Option ListenOutcome)
     → slice_get cs place ≡ Some k → (fate ≡ ActionsOfSessions.Stays → ⊥) → (fate ≡ ActionsOfSessions.Asks → ⊥) → IsActionFor core k fate
     → IfSome (slice_get cs place) (λ c. LetsLinkGo core.endpoint new c.id) → cs' ≡ remove cs place → IfSome (slice_get cs place) (λ c. stop ≡ parted once fate c.phase)
-    → IfSome (slice_get cs place) (λ c. Tends once core c place new cs cs' stop)
-goes_tended once core new cs cs' place k fate stop there stays asks due links gone stops =
+    → ms ≡ with_gone k ns → IfSome (slice_get cs place) (λ c. Tends once core c place new cs cs' ns ms stop)
+goes_tended once core new cs cs' place k fate ns ms stop there stays asks due links gone stops counts =
     let link : LetsLinkGo core.endpoint new k.id = subst (λ (o : Option Session). IfSome o (λ c. LetsLinkGo core.endpoint new c.id)) there links in
     let stopped : stop ≡ parted once fate k.phase = subst (λ (o : Option Session). IfSome o (λ c. stop ≡ parted once fate c.phase)) there stops in
-    subst (λ (o : Option Session). IfSome o (λ c. Tends once core c place new cs cs' stop)) (sym there)
-    (goes once core new cs cs' place k fate stop stays asks due link gone stopped)
+    subst (λ (o : Option Session). IfSome o (λ c. Tends once core c place new cs cs' ns ms stop)) (sym there)
+    (goes once core new cs cs' place k fate ns ms stop stays asks due link gone stopped counts)
+
+-- ---- what is counted with it
+
+-- one goes
+pub counts_gone : (c : Session) (r : ℕ) (old new : Sessions) → new.never_heard ≡ raised_if (is_unheard c.phase) old.never_heard → new.evicted ≡ old.evicted → new.turned_away ≡ old.turned_away
+    → (new.of_never_heard ≡ old.of_never_heard) × (new.of_evicted ≡ old.of_evicted) × (new.of_turned_away ≡ old.of_turned_away)
+    → counts_at r new ≡ with_gone c (counts_at r old)
+counts_gone c r old new never_heard evicted turned_away logs = let a = logs.0 in let b = logs.1 in let d = logs.2 in cc
+
+-- one is asked, or memory is refused
+pub counts_asked : (refused : Bool) (r r' : ℕ) (old new : Sessions) → r' ≡ raised_if refused r → new.never_heard ≡ old.never_heard → new.evicted ≡ old.evicted → new.turned_away ≡ old.turned_away
+    → (new.of_never_heard ≡ old.of_never_heard) × (new.of_evicted ≡ old.of_evicted) × (new.of_turned_away ≡ old.of_turned_away)
+    → counts_at r' new ≡ with_refused refused (counts_at r old)
+counts_asked refused r r' old new is never_heard evicted turned_away logs = let a = logs.0 in let b = logs.1 in let d = logs.2 in cc
+
+pub asks_tended : (once : Bool) (core : PacedHostCore) (new : EndpointView) (cs cs' : List Session) (place r r' : ℕ) (s s' : Sessions) → place < length cs
+    → IfSome (slice_get cs place) (λ c. IsActionFor core c ActionsOfSessions.Asks)
+    → IfSome (slice_get cs place) (λ c. (c' : Session) × Asks core.moment core.endpoint new c c' × (cs' ≡ slice_set cs place c') × (refused : Bool) × IsAskedUnless refused core.endpoint new c c' × (r' ≡ raised_if refused r))
+    → s'.never_heard ≡ s.never_heard → s'.evicted ≡ s.evicted → s'.turned_away ≡ s.turned_away
+    → (s'.of_never_heard ≡ s.of_never_heard) × (s'.of_evicted ≡ s.of_evicted) × (s'.of_turned_away ≡ s.of_turned_away)
+    → IfSome (slice_get cs place) (λ c. Tends once core c place new cs cs' (counts_at r s) (counts_at r' s') None)
+asks_tended once core new cs cs' place r r' s s' within due asks never_heard evicted turned_away logs =
+    let at = some_at cs place within in
+    let c = at.0 in
+    let is = subst (λ (o : Option Session). IfSome o (λ k. IsActionFor core k ActionsOfSessions.Asks)) at.1 due in
+    let here : (c' : Session) × Asks core.moment core.endpoint new c c' × (cs' ≡ slice_set cs place c') × (refused : Bool) × IsAskedUnless refused core.endpoint new c c' × (r' ≡ raised_if refused r) =
+    subst (λ (o : Option Session). IfSome o (λ k. (c' : Session) × Asks core.moment core.endpoint new k c' × (cs' ≡ slice_set cs place c') × (refused : Bool) × IsAskedUnless refused core.endpoint new k c' × (r' ≡ raised_if refused r))) at.1 asks in
+    subst (λ (o : Option Session). IfSome o (λ k. Tends once core k place new cs cs' (counts_at r s) (counts_at r' s') None)) (sym at.1)
+    (ActionsOfSessions.Asks, is, (here.0, here.1, here.2, refl, here.3, here.4, counts_asked here.3 r r' s s' here.5 never_heard evicted turned_away logs))

@@ -13,41 +13,52 @@ use Rattle.ipx_wire.specs.declared.address.Socket.{Socket}
 use Rattle.spx_messages.specs.EndpointView.{buffers_at, held_at}
 use Rattle.spx_messages.specs.Taking.{PeerEnd}
 use Rattle.ipx_host.specs.Sessions.{NotesHeard, has_spoken}
+use Rattle.ipx_host.specs.SessionLogs.{CountsIf, ListenerCounts, LogsCounts, nothing_counted}
 use Rattle.ipx_host.specs.HostOutput.{Writes}
 use Rattle.ipx_host.specs.Passing.{PassesEach, Take, bodies_of, takes_each}
 use Rattle.ipx_host.specs.Tending.{Tidies}
-use Rattle.ipx_host.specs.Turning.{TakesHostTurn}
+use Rattle.ipx_host.specs.Turning.{TakesHostTurn, refused_after}
 use Rattle.ipx_host.specs.declared.sessions.Session.{Session}
 use Rattle.ipx_host.specs.declared.paced_host_core.PacedHostCore.{PacedHostCore}
 use Rattle.ipx_host.specs.declared.listening.ListenOutcome.{ListenOutcome}
 use Rattle.ipx_host.specs.declared.listening.ListenOutcome.TheVariants.{Ended, Lost, Unwritten, Unwaited}
 use Rattle.ipx_host.specs.declared.running_host.Activity.{Activity}
 
--- the state of a host between two steps: its clock and its core, its connections, what is left to write, and
--- what its writer took, if known
+-- the state of a host between two steps: its clock, its port and its core, its connections, what is left to
+-- write, what its writer took, if known, and what it counted
 pub record Host (K : Type 0) : Type 0 where
   pub around : K
   pub core : PacedHostCore
   pub sessions : List Session
   pub left : List ℕ
   pub written : Option (List ℕ)
+  pub counts : ListenerCounts
 
-abbrev pub host : {K : Type 0} → K → PacedHostCore → List Session → List ℕ → Option (List ℕ) → Host K
-host around core sessions left written =
-    record { around = around; core = core; sessions = sessions; left = left; written = written }
+abbrev pub host : {K : Type 0} → K → PacedHostCore → List Session → List ℕ → Option (List ℕ) → ListenerCounts → Host K
+host around core sessions left written counts = record {
+  around = around;
+  core = core;
+  sessions = sessions;
+  left = left;
+  written = written;
+  counts = counts;
+}
 
 -- if a datagram was received, it is noted. Otherwise nothing changes
 abbrev pub NotesIf : Bool → Bool → PacedHostCore → PacedHostCore → List Session → List Session → Type 0
 NotesIf true once old new sessions sessions' = NotesHeard once old new sessions sessions'
 NotesIf false once old new sessions sessions' = (new ≡ old) × (sessions' ≡ sessions)
 
--- a turn, and what is noted of it
+-- a turn, what is noted of it, and what is counted. What was counted before is logged, if it is due
 pub record HearsAndNotesAll {K : Type 0} (around around' : K) (old new : PacedHostCore) (sessions sessions' : List Session)
-    (once : Bool) (drives : K → Turn → K → Type 0) (peers : Peers) : Type 0 where
+    (counts counts' : ListenerCounts) (once : Bool) (drives : K → Turn → K → Type 0) (peers : Peers) : Type 0 where
   pub seen : PacedHostCore
   pub turn : Activity
   pub turned : TakesHostTurn around around' drives peers old seen turn
   pub noted : NotesIf turn.heard once seen new sessions sessions'
+  pub refused : counts'.refused ≡ refused_after turned counts.refused
+  pub logs : LogsCounts counts counts' seen.moment
+  pub counted : CountsIf turn.heard once seen sessions counts counts'
 
 -- what was left is written, and then each connection passes on what it holds, in these takes
 pub record WritesAndPasses (old new : PacedHostCore) (sessions sessions' : List Session) (waiting left : List ℕ)
@@ -85,18 +96,19 @@ pub record StepView : Type 0 where
 pub record Steps {K : Type 0} (old new : Host K) (once : Bool) (stop : Option ListenOutcome)
     (drives : K → Turn → K → Type 0) (peers : Peers) (step : StepView) : Type 0 where
   pub heard : PacedHostCore
-  pub hears : HearsAndNotesAll old.around new.around old.core heard old.sessions step.there once drives peers
+  pub counted : ListenerCounts
+  pub hears : HearsAndNotesAll old.around new.around old.core heard old.sessions step.there old.counts counted once drives peers
   pub active : step.active ≡ hears.turn.active
   pub moved : PacedHostCore
   pub still : List Session
   pub moves : MovesUntilFull heard moved step.there still old.left new.left old.written new.written step.takes
-  pub tidied : Tidies once moved new.core still new.sessions stop
+  pub tidied : Tidies once moved new.core still new.sessions counted new.counts stop
 
 -- a step in which the writer fails
 pub record WriterBreaksOff {K : Type 0} (old new : Host K) (once : Bool) (drives : K → Turn → K → Type 0)
     (peers : Peers) (step : StepView) : Type 0 where
   pub heard : PacedHostCore
-  pub hears : HearsAndNotesAll old.around new.around old.core heard old.sessions step.there once drives peers
+  pub hears : HearsAndNotesAll old.around new.around old.core heard old.sessions step.there old.counts new.counts once drives peers
   pub active : step.active ≡ hears.turn.active
   pub moves : MovesSome heard new.core step.there new.sessions old.left new.left old.written new.written step.takes
 
@@ -158,7 +170,7 @@ pub record HearsOneOut (steps : List StepView) (id : ℕ) (from : Address) : Typ
   pub no_other : All (λ t. t.gave ≢ Ok PeerEnd) earlier
 
 -- a host as its file describes it, which listens at the socket of the file and nowhere else. It paces no
--- connection, holds none yet, and has nothing to write
+-- connection, holds none yet, has nothing to write, and counted nothing
 pub record BeginsListening {K : Type 0} (file : HostConfig) (start : Host K) (peers : Peers)
     (written : Option (List ℕ)) : Type 0 where
   pub network : start.core.endpoint.network ≡ file.network
@@ -175,6 +187,7 @@ pub record BeginsListening {K : Type 0} (file : HostConfig) (start : Host K) (pe
   pub nobody : start.sessions ≡ []
   pub nothing : start.left ≡ []
   pub known : start.written ≡ written
+  pub uncounted : start.counts ≡ nothing_counted
 
 -- such a host has run until it ended well. It heard from one connection only, and took the end of that
 -- connection last. Its writer took the bodies of the messages of that connection, one after another, and

@@ -16,7 +16,8 @@ ghost use Rattle.ipx_host.specs.Hosting.{HearsAndNotesAll, Serves, StepView, Ste
 ghost use Rattle.ipx_host.specs.HostOutput.{Writes, left_of};
 ghost use Rattle.ipx_host.specs.HostPorts.{IsOpened};
 ghost use Rattle.ipx_sockets.specs.Polling.{FailedToWait, FailsToWait, WaitsWell, watched_if};
-ghost use Rattle.ipx_host.specs.SessionLogs.{LogsCounts};
+ghost use Rattle.ipx_host.specs.Midway.{counts_at};
+ghost use Rattle.ipx_host.specs.SessionLogs.{LogsCounts, nothing_counted};
 ghost use Rattle.ipx_host.specs.Sleeping.{MayRest};
 ghost use Rattle.ipx_host.specs.ListenOutcomes.{stop_in, stop_status};
 ghost use Rattle.ipx_host.specs.Turning.{refused_after};
@@ -120,6 +121,8 @@ impl<'a, R: Net + Log + Clock> ListeningHost<'a, R> {
         ensures links { IfOk result (λ l. (id : ℕ) → held_at l.station.core.endpoint id ≡ None) }
         ensures accepted { IfOk result (λ l. l.station.core.came ≡ None) }
         ensures unpaced { IfOk result (λ l. l.station.core.paced ≡ None) }
+        ensures uncounted { IfOk result (λ l.
+            counts_at l.station.refused l.sessions ≡ nothing_counted) }
         // The file says who may request a connection.
         ensures from { IfOk result (λ l.
             named_in l.station.core.from ≡ named_in file.now.from) }
@@ -155,9 +158,13 @@ impl<'a, R: Net + Log + Clock> ListeningHost<'a, R> {
         // More may be waiting after a filtered datagram.
         ensures kept { drops_in self.old.station.host_socket.ports.device.kept
             < drops_in self.new.station.host_socket.ports.device.kept → IsTrue result.active }
+        // What is evicted and turned away for the datagram is counted, and that the turn ran out of
+        // memory.
         ensures hears { (hears : HearsAndNotesAll (around_of self.old.station) (around_of self.new.station)
             self.old.station.core self.new.station.core
-            self.old.sessions.held.items self.new.sessions.held.items self.old.sessions.once
+            self.old.sessions.held.items self.new.sessions.held.items
+            (counts_at self.old.station.refused self.old.sessions)
+            (counts_at self.new.station.refused self.new.sessions) self.old.sessions.once
             DrivesTurn (peers_of self.old.station.host_socket.ports.peers.items))
             × (hears.turn ≡ result)
             × (self.new.station.refused ≡ refused_after hears.turned self.old.station.refused) }
@@ -166,7 +173,9 @@ impl<'a, R: Net + Log + Clock> ListeningHost<'a, R> {
             ≡ map access_by self.old.station.host_socket.ports.device.access_lists.items }
         // The counts of connections that are due after the turn are logged, before the datagram is
         // noted.
-        ensures told { LogsCounts self.old.sessions self.new.sessions self.new.station.core.moment }
+        ensures told { LogsCounts (counts_at self.old.station.refused self.old.sessions)
+            (counts_at self.new.station.refused self.new.sessions)
+            self.new.station.core.moment }
         ensures poller { self.new.station.poller ≡ self.old.station.poller }
         ensures output { self.new.sessions.output ≡ self.old.sessions.output }
         ensures once { self.new.sessions.once ≡ self.old.sessions.once }

@@ -203,6 +203,7 @@ impl<'a, R: Net + Log + Clock> RunningHost<'a, R> {
         ensures nobody { IfOk result (λ s. s.core.endpoint.heard ≡ None) }
         ensures accepted { IfOk result (λ s. s.core.came ≡ None) }
         ensures unpaced { IfOk result (λ s. s.core.paced ≡ None) }
+        ensures uncounted { IfOk result (λ s. s.refused ≡ 0) }
         ensures from { IfOk result (λ s. named_in s.core.from ≡ named_in file.now.from) }
         ensures own { IfOk result (λ s. s.core.network ≡ file.now.network) }
         // A broadcast goes only to its router.
@@ -243,6 +244,7 @@ impl<'a, R: Net + Log + Clock> RunningHost<'a, R> {
         ensures core { self.new.core ≡ self.old.core }
         ensures clock { self.new.clock ≡ self.old.clock }
         ensures host_socket { self.new.host_socket ≡ self.old.host_socket }
+        ensures refused { self.new.refused ≡ self.old.refused }
         ensures watches { self.new.poller.trace.items ≡ self.old.poller.trace.items ++ watched_if fd }
     {
         if let Some(fd) = fd {
@@ -322,6 +324,7 @@ impl<'a, R: Net + Log + Clock> RunningHost<'a, R> {
         ensures core { self.new.core ≡ self.old.core }
         ensures clock { self.new.clock ≡ self.old.clock }
         ensures host_socket { self.new.host_socket ≡ self.old.host_socket }
+        ensures refused { self.new.refused ≡ self.old.refused }
         // The host asks the system once, to wait this long. No link has anything to do until then.
         ensures sleeps { (time : ℕ) × IsSleep self.old.core most time
             × WaitsOnce time self.old.poller self.new.poller }

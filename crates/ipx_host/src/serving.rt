@@ -1,11 +1,12 @@
 //! The connections of a host that listens: how they are accepted, read, probed and released.
 
-ghost use Rattle.std.specs.Prelude.{◌≡◌, ◌<◌, ◌≤◌, [], ℕ, List, false, length, map, remove, slice_get, slice_set, vec_capacity, IfOk, IfSome, IsTrue, OnErr, OnOk, Err, Ok};
+ghost use Rattle.std.specs.Prelude.{◌≡◌, ◌<◌, ◌≤◌, [], ℕ, Bool, List, false, length, map, remove, slice_get, slice_set, vec_capacity, IfOk, IfSome, IsTrue, OnErr, OnOk, Err, Ok};
 ghost use Rattle.ipx_carrier.specs.Counting.{raised};
 ghost use Rattle.ipx_sockets.specs.Moments.{IsLoggedIfDue};
 ghost use Rattle.spx_messages.specs.EndpointView.{held_at};
-ghost use Rattle.ipx_host.specs.Sessions.{AdmitsRequest, Asks, AsksOrCounts, CountsRequest, CountsTurnedAway, CountsUnheard, OnlyEnded, KeepsHeard, KeepsOne, LetsLinkGo, MakesSpace, NotesHeard, SparesOthers, asker_of, session_of, heard_by, evicted_for, is_heard_one, is_unheard_one, keeps_one_prop, place_of_own, place_to_free, raised_if, session_at, without};
+ghost use Rattle.ipx_host.specs.Sessions.{AdmitsRequest, Asks, AsksOrCounts, CountsRequest, CountsTurnedAway, CountsUnheard, IsAskedUnless, OnlyEnded, KeepsHeard, KeepsOne, LetsLinkGo, MakesSpace, NotesHeard, SparesOthers, asker_of, session_of, heard_by, evicted_for, is_heard_one, is_unheard_one, keeps_one_prop, place_of_own, place_to_free, raised_if, session_at, without};
 ghost use Rattle.ipx_host.specs.SessionActions.{is_unheard};
+ghost use Rattle.ipx_host.specs.SessionLogs.{listener_counts, nothing_counted};
 ghost use Rattle.ipx_host.specs.Hosting.{MovesSome, MovesUntilFull};
 ghost use Rattle.ipx_host.specs.ListenOutcomes.{parted, stop_in};
 ghost use Rattle.ipx_host.specs.HostOutput.{left_of};
@@ -121,6 +122,8 @@ impl Sessions {
         ensures nobody { IfOk result (λ c. c.held.items ≡ []) }
         ensures nothing { IfOk result (λ c. left_of c.output ≡ []) }
         ensures once { IfOk result (λ c. c.once ≡ once) }
+        ensures uncounted { IfOk result (λ c. listener_counts 0 c.never_heard c.evicted
+            c.turned_away c.of_never_heard c.of_evicted c.of_turned_away ≡ nothing_counted) }
     {
         Ok(Sessions {
             held: Vec::with_capacity(alloc, MAX_SESSIONS)?,
@@ -155,6 +158,9 @@ impl Sessions {
         ensures never_heard { self.new.never_heard ≡ self.old.never_heard }
         ensures evicted { self.new.evicted ≡ self.old.evicted }
         ensures turned_away { self.new.turned_away ≡ self.old.turned_away }
+        ensures logs { (self.new.of_never_heard ≡ self.old.of_never_heard)
+            × (self.new.of_evicted ≡ self.old.of_evicted)
+            × (self.new.of_turned_away ≡ self.old.of_turned_away) }
         ensures once { self.new.once ≡ self.old.once }
     {
         take_each(alloc, endpoint, &mut self.output, &mut self.held, writer)
@@ -180,6 +186,9 @@ impl Sessions {
         ensures never_heard { self.new.never_heard ≡ self.old.never_heard }
         ensures evicted { self.new.evicted ≡ self.old.evicted }
         ensures turned_away { self.new.turned_away ≡ self.old.turned_away }
+        ensures logs { (self.new.of_never_heard ≡ self.old.of_never_heard)
+            × (self.new.of_evicted ≡ self.old.of_evicted)
+            × (self.new.of_turned_away ≡ self.old.of_turned_away) }
         ensures once { self.new.once ≡ self.old.once }
     {
         let wrote = self.output.write(writer)?;
@@ -336,7 +345,10 @@ impl Sessions {
         requires { place < length self.old.held.items }
         ensures asks { IfSome (slice_get self.old.held.items place) (λ c. (c' : Session)
             × Asks station.old.core.moment station.old.core.endpoint station.new.core.endpoint c c'
-            × (self.new.held.items ≡ slice_set self.old.held.items place c')) }
+            × (self.new.held.items ≡ slice_set self.old.held.items place c')
+            × (refused : Bool)
+            × IsAskedUnless refused station.old.core.endpoint station.new.core.endpoint c c'
+            × (station.new.refused ≡ raised_if refused station.old.refused)) }
         ensures asked { IfSome (slice_get self.old.held.items place) (λ c. AsksOrCounts
             station.old.core.endpoint station.new.core.endpoint c place
             self.old.held.items self.new.held.items station.old.refused station.new.refused) }
@@ -349,6 +361,9 @@ impl Sessions {
         ensures never_heard { self.new.never_heard ≡ self.old.never_heard }
         ensures evicted { self.new.evicted ≡ self.old.evicted }
         ensures turned_away { self.new.turned_away ≡ self.old.turned_away }
+        ensures logs { (self.new.of_never_heard ≡ self.old.of_never_heard)
+            × (self.new.of_evicted ≡ self.old.of_evicted)
+            × (self.new.of_turned_away ≡ self.old.of_turned_away) }
         ensures output { self.new.output ≡ self.old.output }
         ensures once { self.new.once ≡ self.old.once }
     {
@@ -459,6 +474,9 @@ impl Sessions {
             self.new.never_heard ≡ raised_if (is_unheard c.phase) self.old.never_heard) }
         ensures evicted { self.new.evicted ≡ self.old.evicted }
         ensures turned_away { self.new.turned_away ≡ self.old.turned_away }
+        ensures logs { (self.new.of_never_heard ≡ self.old.of_never_heard)
+            × (self.new.of_evicted ≡ self.old.of_evicted)
+            × (self.new.of_turned_away ≡ self.old.of_turned_away) }
         ensures only { OnErr result (IsTrue self.old.once) }
         // With `once` the only connection that was heard goes, and what was taken of it is written.
         ensures written { result ≡ Err Stops.Ended → left_of self.new.output ≡ [] }
@@ -483,7 +501,13 @@ impl Sessions {
         requires { place < length self.old.held.items }
         ensures tends { IfSome (slice_get self.old.held.items place) (λ c. Tends
             self.old.once station.old.core c place station.new.core.endpoint
-            self.old.held.items self.new.held.items (stop_in result)) }
+            self.old.held.items self.new.held.items
+            (listener_counts station.old.refused self.old.never_heard self.old.evicted
+            self.old.turned_away self.old.of_never_heard self.old.of_evicted
+            self.old.of_turned_away)
+            (listener_counts station.new.refused self.new.never_heard self.new.evicted
+            self.new.turned_away self.new.of_never_heard self.new.of_evicted
+            self.new.of_turned_away) (stop_in result)) }
         // One that is to be asked is asked, where its link is open; or memory was refused, which is
         // counted.
         ensures asked { IfSome (slice_get self.old.held.items place) (λ c.
@@ -523,8 +547,15 @@ impl Sessions {
         alloc: Global,
         station: &mut RunningHost<'_, R>,
     ) -> Result<(), ListenOutcome>
+        // One that is silent is asked, unless memory is refused, which is counted.
         ensures tidies { Tidies self.old.once station.old.core station.new.core
-            self.old.held.items self.new.held.items (stop_in result) }
+            self.old.held.items self.new.held.items
+            (listener_counts station.old.refused self.old.never_heard self.old.evicted
+            self.old.turned_away self.old.of_never_heard self.old.of_evicted
+            self.old.of_turned_away)
+            (listener_counts station.new.refused self.new.never_heard self.new.evicted
+            self.new.turned_away self.new.of_never_heard self.new.of_evicted
+            self.new.of_turned_away) (stop_in result) }
         ensures ended { result ≡ Err Stops.Ended → OnlyEnded self.old.held.items }
         ensures written { result ≡ Err Stops.Ended → left_of self.new.output ≡ [] }
         ensures only { OnErr result (IsTrue self.old.once) }

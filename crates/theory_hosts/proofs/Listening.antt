@@ -18,6 +18,7 @@ use Rattle.spx_messages.specs.EndpointView.{EndpointView, buffers_at, buffers_in
 use Rattle.ipx_host.specs.Hosting.{HearsAndNotesAll, Host, ListensWell, MovesSome, MovesUntilFull, NotesIf, Serves, StepView, Steps, StepsTo, StepsWithoutStop, WriterBreaksOff, WritesAndPasses, takes_of}
 use Rattle.ipx_host.specs.Passing.{PassesEach, Take, takes_each, takes_from}
 use Rattle.ipx_host.specs.Sessions.{Admits, AdmitsRequest, Asks, DoesNoted, Evicts, KeepsHeard, LetsLinkGo, LetsLinksGo, NotesHeard, has_spoken, is_at_limit, is_first_own, is_of_node, is_to_go, is_unanswered, is_unheard_of, place_of_any, place_of_own, place_of_own_unanswered, place_to_free}
+use Rattle.ipx_host.specs.SessionLogs.{ListenerCounts}
 use Rattle.ipx_host.specs.Tending.{DoesAction, Tends, TendsFirst, TendsOn, Tidies}
 use Rattle.ipx_host.specs.Turning.{TakesHostTurn}
 use Rattle.ipx_host.specs.declared.listening.ListenOutcome.{ListenOutcome}
@@ -193,29 +194,29 @@ probed now old new c c' a = elim (probes now old new c c' a) [
   | inr refused ↦ fails old new refused
 ]
 
-does_action : (once : Bool) (now : ℕ) (c : Session) (place : ℕ) (fate : SessionAction) (old new : EndpointView) (cs cs' : List Session) (stop : Option ListenOutcome)
-    → DoesAction once now c place fate old new cs cs' stop → ListensByCalls old new []
-does_action once now c place ActionsOfSessions.Stays old new cs cs' stop d = nothing old new d.0
-does_action once now c place ActionsOfSessions.Asks old new cs cs' stop d = probed now old new c d.0 d.1
-does_action once now c place ActionsOfSessions.Over old new cs cs' stop d = lets_go old new c.id d.0
-does_action once now c place ActionsOfSessions.GivenUp old new cs cs' stop d = lets_go old new c.id d.0
+does_action : (once : Bool) (now : ℕ) (c : Session) (place : ℕ) (fate : SessionAction) (old new : EndpointView) (cs cs' : List Session) (ns ms : ListenerCounts) (stop : Option ListenOutcome)
+    → DoesAction once now c place fate old new cs cs' ns ms stop → ListensByCalls old new []
+does_action once now c place ActionsOfSessions.Stays old new cs cs' ns ms stop d = nothing old new d.0
+does_action once now c place ActionsOfSessions.Asks old new cs cs' ns ms stop d = probed now old new c d.0 d.1
+does_action once now c place ActionsOfSessions.Over old new cs cs' ns ms stop d = lets_go old new c.id d.0
+does_action once now c place ActionsOfSessions.GivenUp old new cs cs' ns ms stop d = lets_go old new c.id d.0
 
-tends_first : (once : Bool) (old new : PacedHostCore) (cs cs' : List Session) (stop : Option ListenOutcome) → TendsFirst once old new cs cs' stop → ListensByCalls old.endpoint new.endpoint []
-tends_first once old new cs cs' stop t = does_action once old.moment t.session t.place t.tends.0 old.endpoint new.endpoint cs cs' stop t.tends.2
+tends_first : (once : Bool) (old new : PacedHostCore) (cs cs' : List Session) (ns ms : ListenerCounts) (stop : Option ListenOutcome) → TendsFirst once old new cs cs' ns ms stop → ListensByCalls old.endpoint new.endpoint []
+tends_first once old new cs cs' ns ms stop t = does_action once old.moment t.session t.place t.tends.0 old.endpoint new.endpoint cs cs' ns ms stop t.tends.2
 
-tends_on : (n : ℕ) (once : Bool) (old new : PacedHostCore) (cs cs' : List Session) → TendsOn n once old new cs cs' → ListensByCalls old.endpoint new.endpoint []
-tends_on zero once old new cs cs' t = nothing old.endpoint new.endpoint (ap (λ (c : PacedHostCore). c.endpoint) t.0)
-tends_on (suc n) once old new cs cs' t = after old.endpoint t.0.endpoint new.endpoint [] [] (tends_on n once old t.0 cs t.1 t.2) (tends_first once t.0 new t.1 cs' None t.3)
+tends_on : (n : ℕ) (once : Bool) (old new : PacedHostCore) (cs cs' : List Session) (ns ms : ListenerCounts) → TendsOn n once old new cs cs' ns ms → ListensByCalls old.endpoint new.endpoint []
+tends_on zero once old new cs cs' ns ms t = nothing old.endpoint new.endpoint (ap (λ (c : PacedHostCore). c.endpoint) t.0)
+tends_on (suc n) once old new cs cs' ns ms t = after old.endpoint t.0.endpoint new.endpoint [] [] (tends_on n once old t.0 cs t.1 ns t.2 t.3) (tends_first once t.0 new t.1 cs' t.2 ms None t.4)
 
-tidies : (once : Bool) (old new : PacedHostCore) (cs cs' : List Session) (stop : Option ListenOutcome) → Tidies once old new cs cs' stop → ListensByCalls old.endpoint new.endpoint []
-tidies once old new cs cs' None t = tends_on t.0 once old new cs cs' t.2
-tidies once old new cs cs' (Some stop) t = after old.endpoint t.2.endpoint new.endpoint [] [] (tends_on t.0 once old t.2 cs t.3 t.4) (tends_first once t.2 new t.3 cs' (Some stop) t.5)
+tidies : (once : Bool) (old new : PacedHostCore) (cs cs' : List Session) (ns ms : ListenerCounts) (stop : Option ListenOutcome) → Tidies once old new cs cs' ns ms stop → ListensByCalls old.endpoint new.endpoint []
+tidies once old new cs cs' ns ms None t = tends_on t.0 once old new cs cs' ns ms t.2
+tidies once old new cs cs' ns ms (Some stop) t = after old.endpoint t.2.endpoint new.endpoint [] [] (tends_on t.0 once old t.2 cs t.3 ns t.4 t.5) (tends_first once t.2 new t.3 cs' t.4 ms (Some stop) t.6)
 
 -- ---- steps
 
 module _ {K : Type 0} (once : Bool) (drives : K → Turn → K → Type 0) (peers : Peers) where
-  hears_and_notes : (old new : PacedHostCore) (around around' : K) (cs cs' : List Session) → HearsAndNotesAll around around' old new cs cs' once drives peers → ListensByCalls old.endpoint new.endpoint []
-  hears_and_notes old new around around' cs cs' h =
+  hears_and_notes : (old new : PacedHostCore) (around around' : K) (cs cs' : List Session) (ns ms : ListenerCounts) → HearsAndNotesAll around around' old new cs cs' ns ms once drives peers → ListensByCalls old.endpoint new.endpoint []
+  hears_and_notes old new around around' cs cs' ns ms h =
       after old.endpoint h.seen.endpoint new.endpoint [] [] (turned old h.seen (host_turn drives peers around around' old h.seen h.turn h.turned)) (notes_if h.turn.heard once h.seen new cs cs' h.noted)
 
   step : (old new : Host K) (stop : Option ListenOutcome) (view : StepView) → Steps old new once stop drives peers view → ListensByCalls old.core.endpoint new.core.endpoint view.takes
@@ -223,12 +224,12 @@ module _ {K : Type 0} (once : Bool) (drives : K → Turn → K → Type 0) (peer
       let moved : ListensByCalls s.heard.endpoint s.moved.endpoint view.takes = moves s.heard s.moved view.there s.still old.left new.left old.written new.written view.takes s.moves.0 in
       subst (ListensByCalls old.core.endpoint new.core.endpoint) (append-nil view.takes)
       (after old.core.endpoint s.moved.endpoint new.core.endpoint view.takes []
-      (after old.core.endpoint s.heard.endpoint s.moved.endpoint [] view.takes (hears_and_notes old.core s.heard old.around new.around old.sessions view.there s.hears) moved)
-      (tidies once s.moved new.core s.still new.sessions stop s.tidied))
+      (after old.core.endpoint s.heard.endpoint s.moved.endpoint [] view.takes (hears_and_notes old.core s.heard old.around new.around old.sessions view.there old.counts s.counted s.hears) moved)
+      (tidies once s.moved new.core s.still new.sessions s.counted new.counts stop s.tidied))
 
   broken : (old new : Host K) (view : StepView) → WriterBreaksOff old new once drives peers view → ListensByCalls old.core.endpoint new.core.endpoint view.takes
   broken old new view s =
-      after old.core.endpoint s.heard.endpoint new.core.endpoint [] view.takes (hears_and_notes old.core s.heard old.around new.around old.sessions view.there s.hears)
+      after old.core.endpoint s.heard.endpoint new.core.endpoint [] view.takes (hears_and_notes old.core s.heard old.around new.around old.sessions view.there old.counts new.counts s.hears)
       (moves s.heard new.core view.there new.sessions old.left new.left old.written new.written view.takes s.moves)
 
   steps_to : (old new : Host K) (stop : Option ListenOutcome) (view : StepView) → StepsTo old new once stop drives peers view → ListensByCalls old.core.endpoint new.core.endpoint view.takes

@@ -15,4 +15,4 @@ returns-clause-well g c =
     on_ok _ c.args.loaded c.in-Ok.file c.in-Ok.is
     (begun c.in-Ok.file (c.run_listening.new.writer ≡ c.args.writer.now) (λ k. IsOpened c.in-Ok.file None k.port) c.open-started.result (λ l. listening_at l (held c.args.writer.now)) (λ l. l.sessions.once) (λ l. peers_of l.station.host_socket.ports.peers.items)
     c.args.once (held c.args.writer.now) (held c.run_listening.new.writer) DrivesTurn c.run_listening.result
-    started.network started.node started.router started.peers started.listens started.alone started.links started.accepted started.unpaced started.from started.own started.nobody started.nothing started.once started.opened (λ l. refl) ran.unstarted ran.once ran.well)
+    started.network started.node started.router started.peers started.listens started.alone started.links started.accepted started.unpaced started.from started.own started.nobody started.nothing started.once started.opened started.uncounted (λ l. refl) ran.unstarted ran.once ran.well)

@@ -2,6 +2,7 @@ use Rattle.std.proofs.Common.{◌≡◌, ◌∙◌, ◌<◌, List, None, Some, a
 use Rattle.std.proofs.lemmas.Result.{err_from_is_err_and}
 use Rattle.std.specs.Prelude.{All, IfSome, IsTrue, slice_get}
 use Rattle.ipx_host.specs.HostOutput.{left_of}
+use Rattle.ipx_host.specs.Midway.{counts_at}
 use Rattle.ipx_host.specs.Tending.{JustStays, Tends}
 use Rattle.ipx_host.specs.declared.sessions.Session.{Session}
 use Rattle.ipx_host.specs.declared.paced_host_core.PacedHostCore.{PacedHostCore}
@@ -28,8 +29,9 @@ returns-in_err-tend-clause-tidies g c =
       omega (arith, c.loop-tended-test.true),
       now.core,
       l.held.items,
+      counts_at now.refused l,
       i.tends,
-      tended_first c.args.self.now.once l.once now.core after.core l.held.items new.held.items (Some c.in_err-tend.field-0.0) place i.once there found c.in_err-tend.ensures.tends c.tend.ensures.core,
+      tended_first c.args.self.now.once l.once now.core after.core l.held.items new.held.items (counts_at now.refused l) (counts_at after.refused new) (Some c.in_err-tend.field-0.0) place i.once there found c.in_err-tend.ensures.tends c.tend.ensures.core,
     )
 
 pub returns-in_err-tend-clause-ended : goal.returns-in_err-tend-clause-ended
@@ -44,9 +46,9 @@ returns-in_err-tend-clause-ended g c =
     let is = c.in_err-tend.ensures.only in
     let p = err_from_is_err_and c.from_residual.result c.from_residual.ensures.1 in
     let stop : c.in_err-tend.field-0.0 ≡ Stops.Ended = stop_is c.from_residual.result p.0 c.in_err-tend.field-0.0 Stops.Ended p.1 p.2 ended in
-    let tends = subst (λ (s : ListenOutcome). IfSome (slice_get l.held.items place) (λ k. Tends l.once now.core k place after.core.endpoint l.held.items new.held.items (Some s))) stop c.in_err-tend.ensures.tends in
+    let tends = subst (λ (s : ListenOutcome). IfSome (slice_get l.held.items place) (λ k. Tends l.once now.core k place after.core.endpoint l.held.items new.held.items (counts_at now.refused l) (counts_at after.refused new) (Some s))) stop c.in_err-tend.ensures.tends in
     c.loop-tended.invariant.before is
-    (tended_ends l.once now.core after.core.endpoint l.held.items new.held.items (left_of l.output) place is there l.one tends)
+    (tended_ends l.once now.core after.core.endpoint l.held.items new.held.items (counts_at now.refused l) (counts_at after.refused new) (left_of l.output) place is there l.one tends)
 
 pub loop-tended-preserved : goal.loop-tended-preserved
 loop-tended-preserved g c =
@@ -60,9 +62,9 @@ loop-tended-preserved g c =
     let place = c.in-Some.place in
     let there = subst (λ (l : List Session). place < length l) c.deref.ensures.value c.in-Some.ensures.there in
     let found = subst (λ (l : List Session). All (JustStays now.core) (take place l) × IfSome (slice_get l place) (λ k. JustStays now.core k → ⊥)) c.deref.ensures.value c.in-Some.ensures.first in
-    let one = tended_first old.once l.once now.core after.core l.held.items new.held.items None place i.once there found c.in_ok-tend.ensures.tends c.tend.ensures.core in
+    let one = tended_first old.once l.once now.core after.core l.held.items new.held.items (counts_at now.refused l) (counts_at after.refused new) None place i.once there found c.in_ok-tend.ensures.tends c.tend.ensures.core in
     record {
-      tends = tends_more old.once first.core now.core after.core old.held.items l.held.items new.held.items c.loop-tended._tended i.tends one;
+      tends = tends_more old.once first.core now.core after.core old.held.items l.held.items new.held.items (counts_at first.refused old) (counts_at now.refused l) (counts_at after.refused new) c.loop-tended._tended i.tends one;
       core = c.tend.ensures.core ∙ ap (λ (k : PacedHostCore). record k { endpoint = after.core.endpoint }) i.core;
       clock = c.tend.ensures.clock ∙ i.clock;
       host_socket = c.tend.ensures.host_socket ∙ i.host_socket;
@@ -73,7 +75,7 @@ loop-tended-preserved g c =
       unheard = more_went old.held.items l.held.items new.held.items old.never_heard l.never_heard new.never_heard i.unheard c.tend.ensures.counts;
       before = λ is alone.
           let same : IsTrue l.once = subst IsTrue c.tend.ensures.once is in
-          i.before same (tended_on l.once now.core after.core.endpoint l.held.items new.held.items (left_of l.output) place same there l.one c.in_ok-tend.ensures.tends alone);
+          i.before same (tended_on l.once now.core after.core.endpoint l.held.items new.held.items (counts_at now.refused l) (counts_at after.refused new) (left_of l.output) place same there l.one c.in_ok-tend.ensures.tends alone);
       once = c.tend.ensures.once ∙ i.once;
     }
 

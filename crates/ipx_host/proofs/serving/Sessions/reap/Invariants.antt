@@ -1,5 +1,6 @@
 use Rattle.std.proofs.Common.{◌≡◌}
 use Rattle.std.specs.Prelude.{IsTrue}
+use Rattle.ipx_host.specs.Midway.{counts_at}
 use Rattle.ipx_host.specs.Sessions.{CountsUnheard, OnlyEnded}
 use Rattle.ipx_host.specs.Tending.{TendsOn}
 use Rattle.ipx_host.proofs.serving.Sessions.reap.Given as goal
@@ -8,7 +9,7 @@ use Rattle.ipx_host.proofs.serving.Sessions.reap.Given as goal
 -- as it was; with `once` the only connection is ended just where it was
 abbrev pub invariant-loop-tended : goal.invariant-loop-tended
 invariant-loop-tended g l = record {
-  tends : TendsOn l._tended l.fn.self.once l.fn.station.core l.station.core l.fn.self.held.items l.self.held.items;
+  tends : TendsOn l._tended l.fn.self.once l.fn.station.core l.station.core l.fn.self.held.items l.self.held.items (counts_at l.fn.station.refused l.fn.self) (counts_at l.station.refused l.self);
   core : l.station.core ≡ record l.fn.station.core { endpoint = l.station.core.endpoint };
   clock : l.station.clock ≡ l.fn.station.clock;
   host_socket : l.station.host_socket ≡ l.fn.station.host_socket;
