@@ -1,5 +1,5 @@
 -- What a host that listens does, one step after another.
-use Rattle.std.proofs.Common.{◌≡◌, ◌≢◌, ℕ, zero, suc, ◌+◌, ◌<◌, Bool, true, false, List, [], ◌∷◌, ◌++◌, length, take, Option, Some, None, Result, Ok, Err, ◌⊎◌, inl, inr, refl, sym, ap, ◌∙◌, subst, arith, append_assoc, append-nil}
+use Rattle.std.proofs.Common.{◌≡◌, ◌≢◌, ℕ, zero, suc, ◌+◌, ◌<◌, Bool, true, false, List, [], ◌∷◌, ◌++◌, length, length-append, take, Option, Some, None, Result, Ok, Err, ◌⊎◌, inl, inr, refl, sym, ap, ◌∙◌, subst, arith, append_assoc, append-nil}
 use Rattle.std.specs.Prelude.{All, IfErr, IfOk, IfSome, IsTrue, OnErr, OnOk, slice_get}
 use Rattle.std.specs.Io.KnownBytes.{Appends}
 use Rattle.ipx_carrier.specs.Mapping.{node_at}
@@ -10,7 +10,7 @@ use Rattle.ipx_config.specs.AllowedPeers.{named_in}
 use Rattle.ipx_config.specs.declared.host.HostConfig.{HostConfig}
 use Rattle.ipx_wire.specs.declared.address.Socket.{Socket}
 use Rattle.spx_messages.specs.EndpointView.{EndpointView, Held, buffers_at, held_at}
-use Rattle.ipx_host.specs.Hosting.{HearsAndNotesAll, Host, ListensWell, WritesAndPasses, MovesSome, MovesUntilFull, Serves, ServesWell, StepView, Steps, StepsWithoutStop, StepsTo, WriterBreaksOff, bytes_of, host, takes_of}
+use Rattle.ipx_host.specs.Hosting.{BeginsListening, HearsAndNotesAll, Host, ListensUntil, ListensWell, WritesAndPasses, MovesSome, MovesUntilFull, Serves, ServesUntil, ServesWell, StepView, Steps, StepsWithoutStop, StepsTo, WriterBreaksOff, bytes_of, host, takes_of}
 use Rattle.ipx_host.specs.HostOutput.{Writes, left_of}
 use Rattle.ipx_host.specs.Midway.{counts_at}
 use Rattle.ipx_host.specs.SessionLogs.{ListenerCounts, nothing_counted}
@@ -303,49 +303,107 @@ ended_well old new once Unwritten drives peers steps serves wrote status none = 
 ended_well old new once Unwaited drives peers steps serves wrote status none = absurd (cc)
 
 -- one that was started has no connection yet, and nothing to write
-pub begun : {K T E : Type 0} (file : HostConfig) (X : Type 0) (P : K → Type 0) (started : Result T E) (at : T → Host K) (its : T → Bool) (among : T → Peers) (once : Bool) (a b : Option (List ℕ)) (drives : K → Turn → K → Type 0) (status : ℕ)
+pub begins_so : {K T E : Type 0} (file : HostConfig) (started : Result T E) (at : T → Host K) (among : T → Peers) (a : Option (List ℕ))
     → IfOk started (λ l. (at l).core.endpoint.network ≡ file.network) → IfOk started (λ l. (at l).core.endpoint.node ≡ node_at file.address)
     → IfOk started (λ l. (at l).core.endpoint.router ≡ node_at file.router) → IfOk started (λ l. among l ≡ (file.router ∷ []) ∷ [])
     → IfOk started (λ l. buffers_at (at l).core.endpoint file.socket ≡ Some file.buffers)
     → IfOk started (λ l. (s : Socket) → s.0 ≢ file.socket.0 → buffers_at (at l).core.endpoint s ≡ None)
     → IfOk started (λ l. (id : ℕ) → held_at (at l).core.endpoint id ≡ None) → IfOk started (λ l. (at l).core.came ≡ None) → IfOk started (λ l. (at l).core.paced ≡ None)
     → IfOk started (λ l. named_in (at l).core.from ≡ named_in file.from) → IfOk started (λ l. (at l).core.network ≡ file.network)
-    → IfOk started (λ l. (at l).sessions ≡ []) → IfOk started (λ l. (at l).left ≡ []) → IfOk started (λ l. its l ≡ once) → IfOk started (λ l. P (at l).around) → IfOk started (λ l. (at l).counts ≡ nothing_counted) → ((l : T) → (at l).written ≡ a)
+    → IfOk started (λ l. (at l).sessions ≡ []) → IfOk started (λ l. (at l).left ≡ []) → IfOk started (λ l. (at l).counts ≡ nothing_counted) → ((l : T) → (at l).written ≡ a)
+    → IfOk started (λ l. BeginsListening file (at l) (among l) a)
+begins_so file (Err e) at among a network node router routed listens alone links accepted unpaced from own nobody nothing uncounted written = tt
+begins_so file (Ok l) at among a network node router routed listens alone links accepted unpaced from own nobody nothing uncounted written = record {
+  network = network;
+  node = node;
+  router = router;
+  among = routed;
+  listens = listens;
+  alone = alone;
+  unlinked = links;
+  unasked = accepted;
+  unpaced = unpaced;
+  from = from;
+  own = own;
+  nobody = nobody;
+  nothing = nothing;
+  known = written l;
+  uncounted = uncounted;
+}
+
+pub begun : {K T E : Type 0} (file : HostConfig) (X : Type 0) (started : Result T E) (at : T → Host K) (its : T → Bool) (among : T → Peers) (once : Bool) (a b : Option (List ℕ)) (drives : K → Turn → K → Type 0) (P : K → Type 0) (status : ℕ)
+    → IfOk started (λ l. BeginsListening file (at l) (among l) a) → IfOk started (λ l. its l ≡ once) → IfOk started (λ l. P (at l).around)
     → OnErr started ((status ≡ 1) × X) → (status ≡ 0 → IfOk started (λ l. IsTrue (its l))) → (status ≡ 0 → IfOk started (λ l. (steps : List StepView) × ServesWell (at l) (its l) b drives (among l) steps)) → status ≡ 0
     → (w : ListensWell file once a b drives) × P w.start.around
-begun file X P (Err e) at its among once a b drives status network node router routed listens alone links accepted unpaced from own nobody nothing same opened uncounted written unstarted only well ends =
-    absurd (omega (arith, unstarted.0, ends))
-begun {K} file X P (Ok l) at its among once a b drives status network node router routed listens alone links accepted unpaced from own nobody nothing same opened uncounted written unstarted only well ends =
+begun file X (Err e) at its among once a b drives P status begins same opened unstarted only well ends = absurd (omega (arith, unstarted.0, ends))
+begun {K} file X (Ok l) at its among once a b drives P status begins same opened unstarted only well ends =
     let run = well ends in
     let took : Appends (at l).written b ((at l).left ++ bytes_of run.0) = run.1.4 in
-    let bare : Appends (at l).written b (bytes_of run.0) = subst (λ (x : List ℕ). Appends (at l).written b (x ++ bytes_of run.0)) nothing took in
-    let one = heard_out (at l) run.1.0 (its l) drives (among l) run.0 (only ends) nobody run.1.1 in (
+    let bare : Appends (at l).written b (bytes_of run.0) = subst (λ (x : List ℕ). Appends (at l).written b (x ++ bytes_of run.0)) begins.nothing took in
+    let one = heard_out (at l) run.1.0 (its l) drives (among l) run.0 (only ends) begins.nobody run.1.1 in (
       record {
         start = at l;
         peers = among l;
         steps = run.0;
-        begins = record {
-          network = network;
-          node = node;
-          router = router;
-          among = routed;
-          listens = listens;
-          alone = alone;
-          unlinked = links;
-          unasked = accepted;
-          unpaced = unpaced;
-          from = from;
-          own = own;
-          nobody = nobody;
-          nothing = nothing;
-          known = written l;
-          uncounted = uncounted;
-        };
+        begins = begins;
         serves = subst (λ (o : Bool). ServesWell (at l) o b drives (among l) run.0) same run.1;
         id = one.0;
         from = one.1;
         one = one.2;
-        took = subst (λ (w : Option (List ℕ)). Appends w b (bytes_of run.0)) (written l) bare;
+        took = subst (λ (w : Option (List ℕ)). Appends w b (bytes_of run.0)) begins.known bare;
+      },
+      opened,
+    )
+
+-- ---- or it ends for another reason
+
+-- without `once` no connection that goes ends it
+lost_once : (once : Bool) (old new : PacedHostCore) (cs cs' : List Session) (ns ms : ListenerCounts) → Tidies once old new cs cs' ns ms (Some Lost) → IsTrue once
+lost_once true old new cs cs' ns ms tidied = refl
+lost_once false old new cs cs' ns ms tidied =
+    let last = tidied.6 in
+    absurd (never_parts tidied.2.moment last.session last.place last.tends.0 tidied.2.endpoint new.endpoint tidied.3 cs' tidied.4 ms last.tends.2)
+  where
+    never_parts : (now : ℕ) (c : Session) (place : ℕ) (fate : SessionAction) (old new : EndpointView) (cs cs' : List Session) (ns ms : ListenerCounts) → DoesAction false now c place fate old new cs cs' ns ms (Some Lost) → ⊥
+    never_parts now c place ActionsOfSessions.Stays old new cs cs' ns ms does = let no : Some Lost ≡ None = does.2 in cc
+    never_parts now c place ActionsOfSessions.Asks old new cs cs' ns ms does = let no : Some Lost ≡ None = does.3 in cc
+    never_parts now c place ActionsOfSessions.Over old new cs cs' ns ms does = let no : Some Lost ≡ None = does.2 in cc
+    never_parts now c place ActionsOfSessions.GivenUp old new cs cs' ns ms does = let no : Some Lost ≡ None = does.2 in cc
+
+steps_counted : {K : Type 0} (n : ℕ) (old new : Host K) (once : Bool) (drives : K → Turn → K → Type 0) (peers : Peers) (steps : List StepView) → StepsWithoutStop n old new once drives peers steps → length steps ≡ n
+steps_counted zero old new once drives peers steps run = ap length run.1
+steps_counted (suc n) old new once drives peers steps run =
+    let before : length run.1 ≡ n = steps_counted n old run.0 once drives peers run.1 run.4 in
+    omega (arith, before, ap length run.3, length-append run.1 (run.2 ∷ []))
+
+lost_so : {K : Type 0} (old new : Host K) (once : Bool) (stop : ListenOutcome) (drives : K → Turn → K → Type 0) (peers : Peers) (steps : List StepView)
+    → Serves old new once stop drives peers steps → stop ≡ Lost → IsTrue once ⊎ (length steps ≡ 18446744073709551615)
+lost_so {K} old new once stop drives peers steps (inl s) is =
+    let last : Steps s.1 new once (Some Lost) drives peers s.3 = subst (λ (o : ListenOutcome). StepsTo s.1 new once (Some o) drives peers s.3) is s.6 in
+    inl (lost_once once last.moved new.core last.still new.sessions last.counted new.counts last.tidied)
+lost_so old new once stop drives peers steps (inr s) is = inr (steps_counted s.1 old new once drives peers steps s.3 ∙ s.2)
+
+pub stopped_so : {K T E : Type 0} (file : HostConfig) (X : Type 0) (started : Result T E) (at : T → Host K) (its : T → Bool) (among : T → Peers) (once : Bool) (a b : Option (List ℕ)) (drives : K → Turn → K → Type 0) (P : K → Type 0) (status : ℕ)
+    → IfOk started (λ l. BeginsListening file (at l) (among l) a) → IfOk started (λ l. its l ≡ once) → IfOk started (λ l. P (at l).around)
+    → OnErr started ((status ≡ 1) × X)
+    → IfOk started (λ l. ((status ≡ 1) × X) ⊎ ((stop : ListenOutcome) × (steps : List StepView) × (status ≡ stop_status stop) × ServesUntil (at l) (its l) stop b drives (among l) steps)) → status ≡ 1
+    → X ⊎ ((stop : ListenOutcome) × (stop_status stop ≡ 1) × (u : ListensUntil file once stop a b drives) × P u.start.around)
+stopped_so file X (Err e) at its among once a b drives P status begins same opened unstarted runs ends = inl unstarted.1
+stopped_so file X (Ok l) at its among once a b drives P status begins same opened unstarted (inl idle) ends = inl idle.1
+stopped_so file X (Ok l) at its among once a b drives P status begins same opened unstarted (inr run) ends =
+    let serves : ServesUntil (at l) once run.0 b drives (among l) run.1 = subst (λ (o : Bool). ServesUntil (at l) o run.0 b drives (among l) run.1) same run.3 in
+    let bare : Writes (bytes_of run.1) serves.0.left (at l).written b = subst (λ (x : List ℕ). Writes (x ++ bytes_of run.1) serves.0.left (at l).written b) begins.nothing serves.3 in
+    inr (
+      run.0,
+      sym run.2 ∙ ends,
+      record {
+        start = at l;
+        peers = among l;
+        steps = run.1;
+        begins = begins;
+        serves = serves;
+        lost = lost_so (at l) serves.0 once run.0 drives (among l) run.1 serves.1;
+        took = subst (λ (w : Option (List ℕ)). Writes (bytes_of run.1) serves.0.left w b) begins.known bare;
       },
       opened,
     )
@@ -363,3 +421,13 @@ loaded_so X Well (Err s) status (inr e) said well unloaded ends = absurd (omega 
 pub untouched_by : {T : Type 0} (X P : Type 0) (loaded : Result T ℕ) (status : ℕ) → OnOk loaded P → (P → X) → IfErr loaded (λ s. (status ≡ s) × X) → X
 untouched_by X P (Ok h) status few other unloaded = other few
 untouched_by X P (Err s) status few other unloaded = unloaded.1
+
+-- a status of 1, of a file or of its host
+pub stopped_by : (X : Type 0) (Until : HostConfig → Type 0) (loaded : Result HostConfig ℕ) (status : ℕ) → IfOk loaded (λ h. (text : List ℕ) × IsFileText text × IsHostText text h)
+    → IfOk loaded (λ h. status ≡ 1 → X ⊎ Until h) → IfErr loaded (λ s. (status ≡ s) × X) → status ≡ 1
+    → X ⊎ ((text : List ℕ) × (file : HostConfig) × IsFileText text × IsHostText text file × Until file)
+stopped_by X Until (Ok h) status said stops unloaded ends = elim (stops ends) [
+  | inl none ↦ inl none
+  | inr until ↦ inr (said.0, h, said.1, said.2, until)
+]
+stopped_by X Until (Err s) status said stops unloaded ends = inl unloaded.1

@@ -1,8 +1,8 @@
 -- The steps of a listening host, one after another. In each step it takes a turn and notes what was received.
 -- Then it writes what is left, takes data from its connections, and tends them. The entry points are
--- `Serves`, of a whole run, and `ListensWell`, of a run that ends well. Nothing here is from a public
--- standard.
-use Rattle.std.specs.Prelude.{◌≡◌, ◌≢◌, ◌⊎◌, ◌-◌, ◌^◌, ℕ, zero, suc, Bool, true, false, All, List, [], ◌∷◌, ◌++◌, Option, Some, None, Ok}
+-- `Serves`, of a whole run, `ListensWell`, of a run that ends well, and `ListensUntil`, of any other. Nothing here
+-- is from a public standard.
+use Rattle.std.specs.Prelude.{◌≡◌, ◌≢◌, ◌⊎◌, ◌-◌, ◌^◌, ℕ, zero, suc, Bool, true, false, IsTrue, All, List, [], ◌∷◌, ◌++◌, length, Option, Some, None, Ok}
 use Rattle.std.specs.Io.KnownBytes.{Appends}
 use Rattle.ipx_carrier.specs.Mapping.{node_at}
 use Rattle.ipx_carrier.specs.Turns.{Peers, Turn}
@@ -152,6 +152,13 @@ ServesWell {K} old once writes drives peers steps = (new : Host K)
     × Serves old new once Ended drives peers steps × (new.left ≡ []) × (new.written ≡ writes)
     × Appends old.written writes (old.left ++ bytes_of steps)
 
+-- a run that ends for this reason. Its writer took the first of what was left to write and then of the bodies of
+-- the messages of its takes, and the rest is left
+abbrev pub ServesUntil : {K : Type 0} → Host K → Bool → ListenOutcome → Option (List ℕ) → (K → Turn → K → Type 0) → Peers → List StepView → Type 0
+ServesUntil {K} old once stop writes drives peers steps = (new : Host K)
+    × Serves old new once stop drives peers steps × (new.written ≡ writes)
+    × Writes (old.left ++ bytes_of steps) new.left old.written writes
+
 -- if a connection was heard from, it has this id and this address
 abbrev pub IsOneIfHeard : ℕ → Address → Session → Type 0
 IsOneIfHeard id from c = has_spoken c ≡ true → (c.id ≡ id) × (c.from ≡ from)
@@ -203,3 +210,15 @@ pub record ListensWell {K : Type 0} (file : HostConfig) (once : Bool)
   pub from : Address
   pub one : HearsOneOut steps id from
   pub took : Appends written writes (bytes_of steps)
+
+-- such a host has run until it ended for this reason. A connection ends it only with `once`. Its writer took the
+-- first of the bodies of the messages that it took, one after another, and the rest is left to write
+pub record ListensUntil {K : Type 0} (file : HostConfig) (once : Bool) (stop : ListenOutcome)
+    (written writes : Option (List ℕ)) (drives : K → Turn → K → Type 0) : Type 0 where
+  pub start : Host K
+  pub peers : Peers
+  pub steps : List StepView
+  pub begins : BeginsListening file start peers written
+  pub serves : ServesUntil start once stop writes drives peers steps
+  pub lost : stop ≡ Lost → IsTrue once ⊎ (length steps ≡ 2 ^ 64 - 1)
+  pub took : Writes (bytes_of steps) serves.0.left written writes

@@ -1,13 +1,15 @@
 //! The command `listen`: a host that accepts connections, and writes the messages that it receives.
 
-ghost use Rattle.std.specs.Prelude.{◌≡◌, ◌<◌, ◌≤◌, ℕ, List, IfErr, IfOk, IsTrue, OnErr, OnOk, Err, None, Ok};
+ghost use Rattle.std.specs.Prelude.{◌≡◌, ◌⊎◌, ◌<◌, ◌≤◌, ℕ, List, IfErr, IfOk, IsTrue, OnErr, OnOk, Err, None, Ok};
 ghost use Rattle.ipx_carrier.specs.Turns.{peers_of};
 ghost use Rattle.ipx_config.specs.Host.{IsHostText};
 ghost use Rattle.ipx_config.specs.Loading.{IsFileText};
 ghost use Rattle.ipx_host.specs.Turning.{Around, DrivesTurn};
 ghost use Rattle.ipx_config.specs.declared.host.HostConfig.{HostConfig as AHostFile};
 ghost use Rattle.ipx_host.specs.HostPorts.{IsOpened};
-ghost use Rattle.ipx_host.specs.Hosting.{ListensWell, ServesWell, StepView};
+ghost use Rattle.ipx_host.specs.Hosting.{ListensUntil, ListensWell, ServesUntil, ServesWell, StepView};
+ghost use Rattle.ipx_host.specs.ListenOutcomes.{stop_status};
+ghost use Rattle.ipx_host.specs.declared.listening.ListenOutcome.{ListenOutcome as AStop};
 ghost use Rattle.ipx_host.specs.Midway.{listening_at};
 
 use crate::checking::listener_to_text;
@@ -44,6 +46,13 @@ fn run_listening<R: Net + Log + Clock + Eprint, W: Write>(
         l.sessions.once (W.contents writer.new)
         DrivesTurn (peers_of l.station.host_socket.ports.peers.items) steps) }
     ensures few { result ≤ 1 }
+    // A started host runs until it stops, and the status tells why; or it does not run, and nothing
+    // is written.
+    ensures runs { IfOk started.entry (λ l. ((result ≡ 1) × (writer.new ≡ writer.old))
+        ⊎ ((stop : AStop) × (steps : List StepView) × (result ≡ stop_status stop) × ServesUntil
+        (listening_at l (W.contents writer.old))
+        l.sessions.once stop (W.contents writer.new)
+        DrivesTurn (peers_of l.station.host_socket.ports.peers.items) steps)) }
     ensures once { result ≡ 0 → IfOk started.entry (λ l. IsTrue l.sessions.once) }
 {
     let mut listening = match started {
@@ -74,6 +83,13 @@ fn listen_by<R: Net + Log + Clock + Eprint, W: Write>(
     ensures well { IfOk loaded (λ file. result ≡ 0 → (well : ListensWell {K = Around R} file once
         (W.contents writer.old) (W.contents writer.new) DrivesTurn)
         × IsOpened file None well.start.around.port) }
+    // With status 1 the host of the file never ran, and nothing is written. Or it has run until it
+    // stopped for another reason, and its writer took the first of what it took.
+    ensures stops { IfOk loaded (λ file. result ≡ 1 → (writer.new ≡ writer.old)
+        ⊎ ((stop : AStop) × (stop_status stop ≡ 1)
+        × (until : ListensUntil {K = Around R} file once stop (W.contents writer.old)
+        (W.contents writer.new) DrivesTurn)
+        × IsOpened file None until.start.around.port)) }
 {
     let file = match loaded {
         Ok(file) => file,
@@ -112,6 +128,16 @@ pub fn do_listen<R: Net + Log + Files + Clock + Eprint, W: Write>(
         × (well : ListensWell {K = Around R} file once (W.contents writer.old)
         (W.contents writer.new) DrivesTurn)
         × IsOpened file None well.start.around.port }
+    // With status 1 no host ran, and nothing is written. Or such a host has run until it stopped for
+    // another reason: the connection was lost, the writer failed, or the system could not wait. Its
+    // writer took the first of the bodies of the messages that it took, one after another, and the
+    // rest was left to write.
+    ensures stops { result ≡ 1 → (writer.new ≡ writer.old)
+        ⊎ ((text : List ℕ) × (file : AHostFile) × IsFileText text × IsHostText text file
+        × (stop : AStop) × (stop_status stop ≡ 1)
+        × (until : ListensUntil {K = Around R} file once stop (W.contents writer.old)
+        (W.contents writer.new) DrivesTurn)
+        × IsOpened file None until.start.around.port) }
     // If the file has a fault, nothing is written.
     ensures untouched { result ≡ 2 → writer.new ≡ writer.old }
 {

@@ -1,5 +1,5 @@
 use Rattle.std.proofs.Common.{◌≡◌, arith}
-use Rattle.ipx_host.proofs.Hosted.{loaded_so, untouched_by}
+use Rattle.ipx_host.proofs.Hosted.{loaded_so, stopped_by, untouched_by}
 use Rattle.ipx_host.proofs.listen.do_listen.Goals as goal
 
 pub returns-clause-well : goal.returns-clause-well
@@ -10,3 +10,7 @@ returns-clause-well g c =
 pub returns-clause-untouched : goal.returns-clause-untouched
 returns-clause-untouched g c = λ two.
     untouched_by (c.listen_by.new.writer ≡ c.args.writer.now) _ c.load_host-loaded.result c.listen_by.result c.listen_by.ensures.few (λ few. absurd (omega (arith, few, two))) c.listen_by.ensures.unloaded
+
+pub returns-clause-stops : goal.returns-clause-stops
+returns-clause-stops g c =
+    stopped_by (c.listen_by.new.writer ≡ c.args.writer.now) _ c.load_host-loaded.result c.listen_by.result c.load_host-loaded.ensures.host c.listen_by.ensures.stops c.listen_by.ensures.unloaded

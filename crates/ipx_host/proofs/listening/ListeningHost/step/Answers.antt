@@ -1,8 +1,7 @@
 use Rattle.std.proofs.Common.{◌∙◌, Err, None, Some, ap, refl, sym}
 use Rattle.std.proofs.lemmas.Bool.{or_left}
 use Rattle.std.proofs.lemmas.Result.{err_from_is_err_and}
-use Rattle.ipx_host.specs.Midway.{around_of, listening_at}
-use Rattle.ipx_host.specs.Midway.{counts_at}
+use Rattle.ipx_host.specs.Midway.{around_of, counts_at, listening_at}
 use Rattle.ipx_host.proofs.Hosted.{broken_off, same_counts, stepped, tidied_to}
 use Rattle.ipx_host.proofs.Surrounding.{same_around}
 use Rattle.ipx_host.proofs.Polled.{stopped}
