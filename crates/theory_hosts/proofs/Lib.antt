@@ -9,3 +9,4 @@ pub mod Sending
 pub mod Listening
 pub mod Reader
 pub mod Marks
+pub mod Letting

@@ -27,13 +27,17 @@ ghost use Rattle.theory_processes.specs.Loops.{HostRuns, answers_in, if_given};
 ghost use Rattle.theory_processes.specs.Processes.{IdsDiffer};
 ghost use Rattle.theory_processes.specs.Shows.{Shows};
 ghost use Rattle.theory_processes.specs.Site.{Site};
+ghost use Rattle.theory_processes.specs.Timely.{AreSpaced, IsNewTimed, TimedCall, TimedSite, TimelyCourse, untimed};
 ghost use Rattle.theory_hosts.specs.BetweenTurns.{DoesOrFails, TakesAre, TakesOf, hands_on, message_of};
 ghost use Rattle.theory_hosts.specs.ListeningCalls.{ListensAt, ListensWellByCalls, OutputIsInput};
+ghost use Rattle.theory_hosts.specs.PacedRuns.{PacedCoresGiveSeldom};
 ghost use Rattle.theory_hosts.specs.SendingCalls.{InputIsRead, RunsAt, SendsByCalls};
 ghost use Rattle.theory_hosts.specs.TurnCalls.{MakesCalls};
 
+use spx_congestion::laws::units_are_capped;
 use theory_processes::{
     courses_are_scenes, processes_hand_on, senders_hand_in, status_zero_is_read,
+    timely_courses_are_fresh,
 };
 
 /// Whatever a datagram or a poll does to the core of a host is calls of its endpoint. A barred
@@ -115,4 +119,41 @@ pub fn listened_output_is_input()
     courses_are_scenes();
     processes_hand_on();
     senders_hand_in();
+}
+
+/// The same by one clock, with premises that an operator can judge: nothing arrives except what
+/// hosts and routers sent, no id is given twice at one network and node, nothing that a host
+/// receives was sent by a host more than a second before, and no host gives 32,768 new units within
+/// any second.
+pub fn timely_input_is_read()
+    ensures { (file : HostConfig) (to : Address) (input : Option (List ℕ)) (run : SendsByCalls file to input)
+        (start last : TimedSite) (calls : List TimedCall) (host : ℕ)
+        → IsNewTimed start → TimelyCourse calls start last → AreSpaced last
+        → IdsDiffer last.site → last.site.outside ≡ [] → RunsAt run (untimed calls) last.site host
+        → (s : Scene) × Reached s × Shows s last.site × InputIsRead s last.site host run.id to input }
+{
+    timely_courses_are_fresh();
+    sent_input_is_read();
+}
+
+/// Of a run of `ipx listen` under the same premises. If the peer of its connection is a run of
+/// `ipx send` that ended with status 0, the clause `both_end_well` of `listened_output_is_input`
+/// says that the writer took just its input.
+pub fn timely_output_is_input()
+    ensures { (file : HostConfig) (written writes : Option (List ℕ)) (run : ListensWellByCalls file written writes)
+        (start last : TimedSite) (calls : List TimedCall) (host : ℕ)
+        → IsNewTimed start → TimelyCourse calls start last → AreSpaced last
+        → IdsDiffer last.site → last.site.outside ≡ [] → ListensAt run (untimed calls) last.site host
+        → (s : Scene) × Reached s × Shows s last.site × OutputIsInput s last.site host run.id written writes }
+{
+    timely_courses_are_fresh();
+    listened_output_is_input();
+}
+
+/// The core of `ipx send` gives fewer than 32,767 units of its connection within any 1,000 ms,
+/// first or again, whatever it receives, and whatever its host does between turns.
+pub fn paced_cores_give_seldom()
+    ensures { PacedCoresGiveSeldom }
+{
+    units_are_capped();
 }
