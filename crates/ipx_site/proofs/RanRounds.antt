@@ -1,6 +1,7 @@
 -- One round of a router after another.
 use Rattle.std.proofs.Common.{◌≡◌, ◌⊎◌, ◌+◌, ◌++◌, ◌∷◌, ℕ, suc, Bool, true, false, List, [], Result, Ok, Err, inl, inr, arith, subst, sym, ◌∙◌}
 use Rattle.std.specs.Prelude.{◌==◌, IfErr, IfOk, OnOk, is_err, map}
+use Rattle.ipx_carrier.specs.PriorityRouterCore.{nothing_waits}
 use Rattle.ipx_carrier.specs.ReadySet.{AreMarked, is_any_marked}
 use Rattle.ipx_carrier.specs.Turns.{peers_of}
 use Rattle.ipx_carrier.specs.declared.report.Batch.{Batch}
@@ -70,15 +71,15 @@ rounds_more n first before last run one well =
 
 -- all that holds of a start, in one record
 pub started_by : {R E : Type 0} (secret : Secret) (known : List ClientPlace) (site : RouterConfig) (started : Result (RunningRouter R) E)
-    → IfOk started (λ s. s.core.core.core.core.router.ports ≡ router_ports site.ports.items) → IfOk started (λ s. KnowsNothing s.core.core.core.core.router)
+    → IfOk started (λ s. s.core.core.core.core.router.ports ≡ router_ports site.ports.items) → IfOk started (λ s. KnowsNothing s.core.core.core.core.router) → IfOk started (λ s. s.core.core.core.core.queues ≡ nothing_waits)
     → IfOk started (λ s. IsToHear site.statics.items s.core.core.core)
     → IfOk started (λ s. (s.core.ports ≡ checked_ports site.ports.items) × (s.core.drops ≡ nothing_dropped_yet))
     → IfOk started (λ s. (s.core.core.ports ≡ router_ports site.ports.items) × (s.core.core.buckets ≡ fresh_buckets (limits_of site.ports.items)))
     → IfOk started (λ s. ArePortsBound secret known site.ports.items s.ports) → IfOk started (λ s. s.ready.trace.items ≡ map Watched (port_fds s.ports)) → IfOk started (λ s. s.clock.last ≡ 0) → IfOk started (λ s. s.asked ≡ 0)
     → IfOk started (λ s. StartsBy site s)
-started_by secret known site (Ok s) ports nothing statics checks queriers bound watched clock asked =
-    record { ports = ports; nothing = nothing; statics = statics; checks = checks; queriers = queriers; secret = secret; known = known; bound = bound; indices = subst (λ (it : List PortIndex). AreIndicesDistinct it) (sym bound.port_indices) (distinct site.ports.items); watched = watched; clock = clock; asked = asked }
-started_by secret known site (Err e) ports nothing statics checks queriers bound watched clock asked = tt
+started_by secret known site (Ok s) ports nothing empty statics checks queriers bound watched clock asked =
+    record { ports = ports; nothing = nothing; empty = empty; statics = statics; checks = checks; queriers = queriers; secret = secret; known = known; bound = bound; indices = subst (λ (it : List PortIndex). AreIndicesDistinct it) (sym bound.port_indices) (distinct site.ports.items); watched = watched; clock = clock; asked = asked }
+started_by secret known site (Err e) ports nothing empty statics checks queriers bound watched clock asked = tt
 
 -- a router that started as its file says started as some file says
 pub starts_by_file : {R : Type 0} (loaded : Result RouterConfig ℕ) (result : Result (RunningRouter R) ℕ) → IfOk loaded (λ s. (text : List ℕ) × IsFileText text × IsSiteText text s)

@@ -2,6 +2,7 @@
 -- `StartsByFile`, `RunsTo` and, of both, `RoutesWell`; of a given text `StartsByText` and `RoutesByText`. Defined by
 -- this project.
 use Rattle.std.specs.Prelude.{◌≡◌, ◌^◌, ◌-◌, ◌++◌, ◌∷◌, ℕ, zero, suc, Bool, true, false, List, [], map, None}
+use Rattle.ipx_carrier.specs.PriorityRouterCore.{nothing_waits}
 use Rattle.ipx_carrier.specs.ReadySet.{AreMarked, is_any_marked}
 use Rattle.ipx_carrier.specs.Turns.{peers_of}
 use Rattle.ipx_carrier.specs.declared.report.Batch.{Batch}
@@ -34,12 +35,14 @@ abbrev pub KnowsNothing : RouterView → Type 0
 KnowsNothing r = (r.routes.offers ≡ []) × (r.services.offers ≡ []) × (r.advertised_at ≡ None)
 
 -- a router has started as its file says. It has the ports of the file, each with its socket and an index of
--- its own, and all ipxnet ports with one secret and notes of some clients. It knows nothing of other routers, and is to hear its static entries. It checks sources at its ports, and has dropped nothing. The limits at its ports are
+-- its own, and all ipxnet ports with one secret and notes of some clients. It knows nothing of other routers, has
+-- nothing to send, and is to hear its static entries. It checks sources at its ports, and has dropped nothing. The limits at its ports are
 -- those of their kinds and of the file, and no query has come. Its poller watches the descriptors of
 -- all its sockets, by kind, and has not waited. Its clock begins at 0, and it has not repeated its requests
 pub record StartsBy {R : Type 0} (site : RouterConfig) (first : RunningRouter R) : Type 0 where
   pub ports : first.core.core.core.core.router.ports ≡ router_ports site.ports.items
   pub nothing : KnowsNothing first.core.core.core.core.router
+  pub empty : first.core.core.core.core.queues ≡ nothing_waits
   pub statics : IsToHear site.statics.items first.core.core.core
   pub checks : (first.core.ports ≡ checked_ports site.ports.items) × (first.core.drops ≡ nothing_dropped_yet)
   pub queriers : (first.core.core.ports ≡ router_ports site.ports.items)

@@ -4,6 +4,7 @@ ghost use Rattle.std.specs.Prelude.{◌≡◌, ◌≤◌, ◌⊎◌, ◌+◌, []
 ghost use Rattle.ipx_router.specs.NewRouter.{IsOwnNetwork};
 ghost use Rattle.ipx_router.specs.Ports.{IsPortNumber};
 ghost use Rattle.ipx_static.specs.StaticAdvertisements.{AreStaticAdvertisements};
+ghost use Rattle.ipx_carrier.specs.PriorityRouterCore.{nothing_waits};
 ghost use Rattle.ipx_carrier.specs.Turns.{peers_of};
 ghost use Rattle.ipx_carrier.specs.Counting.{counted};
 ghost use Rattle.ipx_source_checks.specs.SourceChecks.{nothing_dropped_yet};
@@ -113,6 +114,7 @@ fn hearing_statics(
 ) -> Result<WithStatics<MeteredRouter>, AllocError>
     requires { All (λ n. IsPortNumber (length router.ports) n.port) neighbours.now }
     ensures router { IfOk result (λ c. c.core.router ≡ router) }
+    ensures empty { IfOk result (λ c. c.core.queues ≡ nothing_waits) }
     ensures statics { IfOk result (λ c. AreStaticAdvertisements neighbours.now c.advertisements × (c.refreshed_at ≡ None)) }
 {
     let counted = MeteredRouter::new(alloc, router)?;
@@ -133,6 +135,7 @@ fn core_of(
     requires there { All (λ n. IsPortNumber (length ports.now) n.port) neighbours.now }
     ensures router { IfOk result (λ c. c.core.core.router.ports ≡ router_ports ports.now) }
     ensures nothing { IfOk result (λ c. KnowsNothing c.core.core.router) }
+    ensures empty { IfOk result (λ c. c.core.core.queues ≡ nothing_waits) }
     ensures statics { IfOk result (λ c. AreStaticAdvertisements neighbours.now c.core.advertisements
         × (c.core.refreshed_at ≡ None)) }
     ensures ports { IfOk result (λ c. c.ports ≡ router_ports ports.now) }
@@ -156,6 +159,7 @@ fn core_of_file(
     ensures router { IfOk result (λ c.
         c.core.core.core.router.ports ≡ router_ports site.now.ports.items) }
     ensures nothing { IfOk result (λ c. KnowsNothing c.core.core.core.router) }
+    ensures empty { IfOk result (λ c. c.core.core.core.queues ≡ nothing_waits) }
     ensures statics { IfOk result (λ c. IsToHear site.now.statics.items c.core.core) }
     ensures checks { IfOk result (λ c. (c.ports ≡ checked_ports site.now.ports.items)
         × (c.drops ≡ nothing_dropped_yet)) }
@@ -371,6 +375,8 @@ pub(crate) fn start<'a, R: Net + Log + SystemClock>(
         s.core.core.core.core.router.ports ≡ router_ports site.ports.items) }
     // It knows nothing of other routers.
     ensures nothing { IfOk result (λ s. KnowsNothing s.core.core.core.core.router) }
+    // No packet waits to be sent.
+    ensures empty { IfOk result (λ s. s.core.core.core.core.queues ≡ nothing_waits) }
     // It is to hear the static entries of the file, and has not heard them yet.
     ensures statics { IfOk result (λ s. IsToHear site.statics.items s.core.core.core) }
     // It checks sources at these ports, and has dropped nothing yet.
