@@ -1,0 +1,13 @@
+pub mod Unpacing
+pub mod Planning
+pub mod Amidst
+pub mod Crossings
+pub mod Told
+pub mod Rounds
+pub mod Turns
+pub mod Minutes
+pub mod Stuck
+pub mod Existing
+pub mod Listening
+pub mod ManyRounds
+pub mod Usable

@@ -1,0 +1,6 @@
+pub mod PacedRounds
+pub mod PacedMinutes
+pub mod PacedExist
+pub mod PacedDelivers
+pub mod PacedStuck
+pub mod PacingLaws
