@@ -15,6 +15,8 @@ mod refused;
 #[cfg(test)]
 mod repairs;
 #[cfg(test)]
+mod rounds;
+#[cfg(test)]
 mod rows;
 #[cfg(test)]
 mod speed;
