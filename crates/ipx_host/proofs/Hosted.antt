@@ -12,7 +12,7 @@ use Rattle.ipx_wire.specs.declared.address.Socket.{Socket}
 use Rattle.spx_messages.specs.EndpointView.{EndpointView, Held, buffers_at, held_at}
 use Rattle.ipx_host.specs.Hosting.{BeginsListening, HearsAndNotesAll, Host, ListensUntil, ListensWell, WritesAndPasses, MovesSome, MovesUntilFull, Serves, ServesUntil, ServesWell, StepView, Steps, StepsWithoutStop, StepsTo, WriterBreaksOff, bytes_of, host, takes_of}
 use Rattle.ipx_host.specs.HostOutput.{Writes, left_of}
-use Rattle.ipx_host.specs.Midway.{counts_at}
+use Rattle.ipx_host.specs.Midway.{around_of, counts_at, listening_at}
 use Rattle.ipx_host.specs.SessionLogs.{ListenerCounts, nothing_counted}
 use Rattle.ipx_host.specs.declared.serving.Sessions.{Sessions}
 use Rattle.ipx_host.specs.Passing.{PassesEach, PassesFrom, PassesSome, PassesUntilFull, Take, bodies_after, bodies_of, held_after, left_with, takes_after, takes_each, takes_from}
@@ -25,6 +25,8 @@ use Rattle.ipx_host.specs.declared.sessions.SessionAction.TheVariants as Actions
 use Rattle.ipx_host.specs.declared.sessions.Phase.{Phase}
 use Rattle.ipx_host.specs.declared.sessions.Phase.TheVariants as Standings
 use Rattle.ipx_host.specs.declared.paced_host_core.PacedHostCore.{PacedHostCore}
+use Rattle.ipx_host.specs.declared.listening.ListeningHost.{ListeningHost}
+use Rattle.ipx_host.specs.declared.running_host.RunningHost.{RunningHost}
 use Rattle.ipx_host.specs.declared.listening.ListenOutcome.{ListenOutcome}
 use Rattle.ipx_host.specs.declared.listening.ListenOutcome.TheVariants.{Ended, Lost, Unwritten, Unwaited}
 use Rattle.ipx_host.specs.declared.output.Outlet.{Outlet}
@@ -220,6 +222,19 @@ broken_off {K} around around1 core core1 core2 cs cs1 cs2 o o1 o2 ns ns1 ns2 onc
       active = did;
       moves = subst (λ (k : Outlet). MovesSome core1 core2 cs1 cs2 (left_of k) (left_of o2) a b takes) unheard moves;
     })
+
+-- the wait after a step changes nothing
+pub same_listening : {R : Type 0} (l : ListeningHost R) (s : RunningHost R) (w : Option (List ℕ)) → s.core ≡ l.station.core → s.clock ≡ l.station.clock → s.host_socket ≡ l.station.host_socket
+    → s.refused ≡ l.station.refused → host (around_of s) s.core l.sessions.held.items (left_of l.sessions.output) w (counts_at s.refused l.sessions) ≡ listening_at l w
+same_listening l s w core clock socket refused = cc
+
+-- so it stops the host after that step
+pub waited : {K : Type 0} (old new now : Host K) (once : Bool) (drives : K → Turn → K → Type 0) (peers : Peers) (step : StepView)
+    → now ≡ new → Steps old new once None drives peers step → StepsTo old now once (Some Unwaited) drives peers step
+waited {K} old new now once drives peers step same s = subst (λ (h : Host K). Steps old h once None drives peers step) (sym same) s
+
+pub not_both : (b : Bool) → b ≡ false → b ≡ true → ⊥
+not_both b apart is = let both : false ≡ true = sym apart ∙ is in cc
 
 -- a step that is tidied stops the host so
 pub tidied_to : {K : Type 0} (old new : Host K) (once : Bool) (stop : ListenOutcome) (drives : K → Turn → K → Type 0) (peers : Peers) (step : StepView)
