@@ -1,0 +1,13 @@
+pub mod Holding
+pub mod Quiet
+pub mod Queues
+pub mod Living
+pub mod Statics
+pub mod Calling
+pub mod Turning
+pub mod Chaining
+pub mod Rounding
+pub mod Starting
+pub mod Staying
+pub mod Adding
+pub mod Joining
