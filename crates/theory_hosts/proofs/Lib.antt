@@ -10,3 +10,4 @@ pub mod Listening
 pub mod Reader
 pub mod Marks
 pub mod Letting
+pub mod Spacing

@@ -1,6 +1,7 @@
 -- How seldom the core of `ipx send` gives units of its paced connection, whatever it receives, and whatever its
--- host does between turns. The entry point is `PacedCoresGiveSeldom`, at the end. Defined by this project.
-use Rattle.std.specs.Prelude.{ℕ, ◌≡◌, ◌<◌, ◌≤◌, ◌==◌, ◌&&◌, Bool, true, false, List, [], ◌∷◌, ◌++◌, Option, None, Some, if◌then◌else◌}
+-- host does between turns; and so its new units are spaced in a course by one clock. The entry points are
+-- `PacedCoresGiveSeldom` and `PacedHostsAreSpaced`. Defined by this project.
+use Rattle.std.specs.Prelude.{ℕ, ◌≡◌, ◌<◌, ◌≤◌, ◌+◌, ◌==◌, ◌⊎◌, ◌&&◌, Bool, true, false, List, [], ◌∷◌, ◌++◌, Option, None, Some, if◌then◌else◌}
 use Rattle.ipx_carrier.specs.Turns.{Given}
 use Rattle.ipx_host.specs.Barring.{HearAllowedOutOfMemory, HearsAllowed}
 use Rattle.ipx_host.specs.Paced.{GivesOnceTold}
@@ -9,6 +10,7 @@ use Rattle.spx_congestion.specs.Capping.{count_within}
 use Rattle.spx_congestion.specs.Pacing.{made_pacer}
 use Rattle.spx_link.specs.declared.outgoing.Sent.{Sent}
 use Rattle.spx_link.specs.declared.outgoing.Sent.TheVariants as Sents
+use Rattle.theory_processes.specs.Timely.{AreSpaced, NewUnit, TimedSite}
 
 -- a packet carries a unit, or the end of a connection, first or again
 abbrev pub carries_unit : Sent → Bool
@@ -48,3 +50,31 @@ pub data HasPaced (id : ℕ) : PacedHostCore → List ℕ → ℕ → Type 0 whe
 abbrev pub PacedCoresGiveSeldom : Type 0
 PacedCoresGiveSeldom = (id : ℕ) (core : PacedHostCore) (units : List ℕ) (last : ℕ) → HasPaced id core units last
     → (from : ℕ) → count_within from units < 32767
+
+-- ---- in a course by one clock
+
+-- when a host gave its new units
+abbrev pub units_of : ℕ → List NewUnit → List ℕ
+units_of host [] = []
+units_of host (u ∷ us) = if u.host == host then u.at ∷ units_of host us else units_of host us
+
+-- these moments are among those of another clock, in order, which began at the moment `start`
+abbrev pub AreAmong : ℕ → List ℕ → List ℕ → Type 0
+AreAmong start [] times = Unit {0}
+AreAmong start (at ∷ ats) [] = ⊥
+AreAmong start (at ∷ ats) (t ∷ times) = ((at ≡ start + t) × AreAmong start ats times) ⊎ AreAmong start (at ∷ ats) times
+
+-- what a host gave first are units of a paced core, whose clock began at some moment and goes on as the one clock
+-- does
+pub record IsPacedBy (host : ℕ) (units : List NewUnit) : Type 0 where
+  pub id : ℕ
+  pub core : PacedHostCore
+  pub given : List ℕ
+  pub until : ℕ
+  pub paced : HasPaced id core given until
+  pub start : ℕ
+  pub among : AreAmong start (units_of host units) given
+
+-- if each host that gives new units is such a one, they are spaced
+abbrev pub PacedHostsAreSpaced : Type 0
+PacedHostsAreSpaced = (s : TimedSite) → ((host : ℕ) → (units_of host s.units ≡ []) ⊎ IsPacedBy host s.units) → AreSpaced s

@@ -30,7 +30,7 @@ ghost use Rattle.theory_processes.specs.Site.{Site};
 ghost use Rattle.theory_processes.specs.Timely.{AreSpaced, IsNewTimed, TimedCall, TimedSite, TimelyCourse, untimed};
 ghost use Rattle.theory_hosts.specs.BetweenTurns.{DoesOrFails, TakesAre, TakesOf, hands_on, message_of};
 ghost use Rattle.theory_hosts.specs.ListeningCalls.{ListensAt, ListensWellByCalls, OutputIsInput};
-ghost use Rattle.theory_hosts.specs.PacedRuns.{PacedCoresGiveSeldom};
+ghost use Rattle.theory_hosts.specs.PacedRuns.{PacedCoresGiveSeldom, PacedHostsAreSpaced};
 ghost use Rattle.theory_hosts.specs.SendingCalls.{InputIsRead, RunsAt, SendsByCalls};
 ghost use Rattle.theory_hosts.specs.TurnCalls.{MakesCalls};
 
@@ -156,4 +156,12 @@ pub fn paced_cores_give_seldom()
     ensures { PacedCoresGiveSeldom }
 {
     units_are_capped();
+}
+
+/// So in a course by one clock new units are spaced, if each host that gives any is such a core,
+/// whose clock began at some moment and goes on as the one clock does.
+pub fn paced_hosts_are_spaced()
+    ensures { PacedHostsAreSpaced }
+{
+    paced_cores_give_seldom();
 }

@@ -7,7 +7,7 @@ mod programs;
 
 pub use laws::{
     listened_output_is_input, paced_calls_are_host_calls, paced_cores_give_seldom,
-    paced_turns_are_calls, sent_input_is_read, timely_input_is_read, timely_output_is_input,
-    work_between_turns_is_calls,
+    paced_hosts_are_spaced, paced_turns_are_calls, sent_input_is_read, timely_input_is_read,
+    timely_output_is_input, work_between_turns_is_calls,
 };
 pub use programs::{listen, send};
