@@ -37,8 +37,8 @@ nothing core empty g is = elim is.1 [
   | inr own ↦ contains_none is.0 (subst (λ (q : PriorityQueues). Contains q.own is.0) empty own)
 ]
 
-pub started : {R : Type 0} (first : RunningRouter R) → StartsByFile first → (router_in first.core).queues ≡ nothing_waits → IsNewSiteCore first.core
-started first s empty =
+pub started : {R : Type 0} (first : RunningRouter R) → StartsByFile first → IsNewSiteCore first.core
+started first s =
     let site = s.1.0 in
     let ports = s.1.2.2.ports in
     let starts = s.1.3 in
@@ -48,5 +48,5 @@ started first s empty =
         neighbours = starts.statics.0;
         statics = starts.statics.2;
       };
-      none = nothing first.core empty;
+      none = nothing first.core starts.empty;
     }

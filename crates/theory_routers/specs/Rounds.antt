@@ -1,7 +1,6 @@
 -- The rounds of `ipx route`, as calls on its core. The entry points are `RoundsAreCalls`, `RunsAreCalls`,
 -- `RoutesByCalls` and `StartedCoresAreNew`. Defined by this project.
 use Rattle.std.specs.Prelude.{ℕ, ◌≡◌, ◌++◌, Bool, List, [], flat_map}
-use Rattle.ipx_carrier.specs.PriorityRouterCore.{nothing_waits}
 use Rattle.ipx_carrier.specs.Turns.{Turn, packets_of, received_of}
 use Rattle.ipx_carrier.specs.declared.datagrams.Datagrams as OfDevice
 use Rattle.ipx_ethernet_ports.specs.declared.end_sockets.EndSockets as OfSockets
@@ -18,7 +17,6 @@ use Rattle.ipx_site.specs.SiteMarks.{AfterMarks}
 use Rattle.ipx_site.specs.declared.running_router.RunningRouter.{RunningRouter}
 use Rattle.theory_processes.specs.Loops.{answers_in, router_gave, router_heard}
 use Rattle.theory_processes.specs.RouterCalls.{RouterCall}
-use Rattle.theory_routers.specs.Lives.{router_in}
 use Rattle.theory_routers.specs.PortTurns.{PortsTakeTurns}
 use Rattle.theory_routers.specs.SiteCalls.{SiteCallsLead, SiteRuns, numbered}
 use Rattle.theory_routers.specs.Together.{IsNewSiteCore}
@@ -52,8 +50,6 @@ RunsAreCalls R = (first last : RunningRouter R) (well : Bool) → RunsTo first l
 abbrev pub RoutesByCalls : Type 0 → Type 0
 RoutesByCalls R = (first last : RunningRouter R) × StartsByFile first × SiteCallsLead first.core last.core
 
--- a router that started as a file says has a core with nothing to send, if no packet waits in its queues. The
--- clauses of a start do not say that
+-- a router that started as a file says has a core with nothing to send
 abbrev pub StartedCoresAreNew : Type 0 → Type 0
-StartedCoresAreNew R = (first : RunningRouter R) → StartsByFile first → (router_in first.core).queues ≡ nothing_waits
-    → IsNewSiteCore first.core
+StartedCoresAreNew R = (first : RunningRouter R) → StartsByFile first → IsNewSiteCore first.core

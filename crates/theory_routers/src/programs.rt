@@ -17,7 +17,7 @@ pub fn rounds_are_calls<R: Clock>()
     ensures run { RunsAreCalls R }
 {}
 
-/// A core that has started as a file says has nothing to send, if no packet waits in its queues.
+/// A core that has started as a file says has nothing to send.
 pub fn started_cores_are_new<R: Clock>()
     ensures { StartedCoresAreNew R }
 {}
