@@ -15,11 +15,18 @@ LIMIT, THREE_SECONDS = 20, 5
 # In each round plain datagrams of the size of a full unit go between two processes, by tests/data/plain.c, and then a transfer at
 # each number of buffers, of 20 MB in the first round. The quickest at a number has at least this share of the rate of the
 # quickest piece of plain ones.
-# On a machine with twice as much else to do as it has processors it had 0.28 to 0.32.
+# On a machine with twice as much else to do as it has processors it had 0.28 to 0.32. A sender lets at most 32,000 units a second go:
+# where that share is more than it may send, it sends nearly as much as it may.
 # A virtual machine runs at several speeds, and one of the two may not have had the best one: if a share is too small, there are
 # so many more rounds, and the quickest of all decide, once.
 UNIT, DATAGRAM, PLAIN_COUNT, PLAIN_PIECE = 534, 576, 16_000, 2_000
 ROUNDS, MORE_ROUNDS, SHARE = 8, 24, 0.2
+MOST, NEARLY = 32_000 * UNIT, 0.95
+
+
+def least_rate(plain):
+    """What a transfer has to reach beside these rates of plain datagrams, in bytes a second."""
+    return min(SHARE * max(plain), NEARLY * MOST)
 
 
 def plain_rate(sites, program):
@@ -70,7 +77,7 @@ def check_rates(sites):
         on_one(listeners[buffers])
         until(listeners[buffers].said, 5)
     for number in range(ROUNDS + MORE_ROUNDS):
-        if number == ROUNDS and not (plain and any(max(some) < SHARE * max(plain) for some in rates.values())):
+        if number == ROUNDS and not (plain and any(max(some) < least_rate(plain) for some in rates.values())):
             break
         plain += [plain_rate(sites, program)] if program else []
         for buffers, some in rates.items():
@@ -81,9 +88,9 @@ def check_rates(sites):
         leave_out("transfers beside plain datagrams", "gcc is not installed")
         return
     for buffers, some in rates.items():
-        share = max(some) / max(plain)
-        sites.check(f"at {buffers} buffers bytes go at {SHARE} of the rate of plain datagrams or more", share >= SHARE,
-                    f"{share:.3f}: {max(some) / 1e6:.1f} of {max(plain) / 1e6:.1f} MB/s")
+        seen = f"{max(some) / 1e6:.1f} of {max(plain) / 1e6:.1f} MB/s"
+        sites.check(f"at {buffers} buffers bytes go at {SHARE} of the rate of plain datagrams, or nearly as fast as a sender may",
+                    max(some) >= least_rate(plain), seen)
 
 
 def check_three(sites):
