@@ -38,7 +38,7 @@ pub record IsSound (core : SiteCore) : Type 0 where
   pub neighbours : List StaticNeighbour
   pub statics : AreStaticAdvertisements neighbours core.core.core.advertisements
 
--- an answer without packets
+-- nothing is forwarded or replied: it is learned, or dropped
 abbrev pub SendsNone : OutcomeView → Type 0
 SendsNone (Forward port next bytes) = ⊥
 SendsNone (Replies sent) = ⊥

@@ -1,6 +1,6 @@
 -- The rounds of `ipx route`, as calls on its core. The entry points are `RoundsAreCalls`, `RunsAreCalls`,
 -- `RoutesByCalls` and `StartedCoresAreNew`. Defined by this project.
-use Rattle.std.specs.Prelude.{ℕ, ◌≡◌, ◌++◌, Bool, List, [], flat_map}
+use Rattle.std.specs.Prelude.{ℕ, ◌≡◌, ◌++◌, Bool, true, List, [], flat_map}
 use Rattle.ipx_carrier.specs.Turns.{Turn, packets_of, received_of}
 use Rattle.ipx_carrier.specs.declared.datagrams.Datagrams as OfDevice
 use Rattle.ipx_ethernet_ports.specs.declared.end_sockets.EndSockets as OfSockets
@@ -46,9 +46,10 @@ RoundsAreCalls R = (old new : RunningRouter R) → TakesRound old new → RoundB
 abbrev pub RunsAreCalls : Type 0 → Type 0
 RunsAreCalls R = (first last : RunningRouter R) (well : Bool) → RunsTo first last well → SiteCallsLead first.core last.core
 
--- a router started as a file says, and calls lead from there to where it ended
+-- a router started as a file says, its run from there succeeded, and calls lead from there to where it ended
 abbrev pub RoutesByCalls : Type 0 → Type 0
-RoutesByCalls R = (first last : RunningRouter R) × StartsByFile first × SiteCallsLead first.core last.core
+RoutesByCalls R = (first last : RunningRouter R) × StartsByFile first × RunsTo first last true
+    × SiteCallsLead first.core last.core
 
 -- a router that started as a file says has a core with nothing to send
 abbrev pub StartedCoresAreNew : Type 0 → Type 0
