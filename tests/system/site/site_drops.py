@@ -147,11 +147,17 @@ def check_guard_figures(sites, figures):
     sites.check("each router says how many packets wait", None not in waiting.values(), str(waiting))
 
 
+# When the alerts of contrib/ipx.rules.yml begin and end.
+ALERTS = os.path.join(os.path.dirname(os.path.abspath(__file__)), "../../data/alert_rules_test.yml")
+
+
 def check_promtool(sites):
-    """What promtool says of all status files, where it is installed."""
+    """What promtool says of all status files, and of the alert rules, where it is installed."""
     if not shutil.which("promtool"):
-        leave_out("what promtool finds in metrics files", "it is not installed (apt-get install prometheus)")
+        leave_out("what promtool finds in metrics files and alert rules", "it is not installed (apt-get install prometheus)")
         return
+    ran = subprocess.run(["promtool", "test", "rules", ALERTS], capture_output=True, check=False)
+    sites.check("each alert begins and ends when it is to", ran.returncode == 0, (ran.stdout + ran.stderr).decode()[:600])
     found = {}
     for path in glob.glob(sites.world.path("*.prom")):
         with open(path, "rb") as it:
