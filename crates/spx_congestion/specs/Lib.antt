@@ -3,6 +3,7 @@ pub mod Giving
 pub mod Hearing
 pub mod Measured
 pub mod Pacing
+pub mod Remembered
 pub mod Saving
 pub mod Capping
 pub mod Timeouts

@@ -1,5 +1,8 @@
 //! The least round trip of the last seconds.
 
+ghost use Rattle.std.specs.Prelude.{◌≡◌, None};
+ghost use Rattle.spx_congestion.specs.Remembered.{least_of, loses_least, noted, remembered};
+
 /// How long a period is, in milliseconds.
 const PERIOD: u64 = 10_000;
 
@@ -18,7 +21,9 @@ pub struct LeastTrip {
 
 impl LeastTrip {
     /// Nothing is measured yet.
-    pub fn new() -> LeastTrip {
+    pub fn new() -> LeastTrip
+        ensures { result ≡ record { period = 0; present = None; before = None } }
+    {
         LeastTrip {
             period: 0,
             present: None,
@@ -27,7 +32,9 @@ impl LeastTrip {
     }
 
     /// What is remembered at this time. If the clock went back, no time has passed.
-    fn at(self, now: u64) -> LeastTrip {
+    fn at(self, now: u64) -> LeastTrip
+        ensures { result ≡ remembered self now }
+    {
         let period = now / PERIOD;
         if period <= self.period {
             return self;
@@ -41,7 +48,9 @@ impl LeastTrip {
     }
 
     /// The least round trip as of the last one that was noted. None before anything is measured.
-    pub fn last(self) -> Option<u64> {
+    pub fn last(self) -> Option<u64>
+        ensures { result ≡ least_of self }
+    {
         match (self.present, self.before) {
             (Some(present), Some(before)) => Some(present.min(before)),
             (present, before) => present.or(before),
@@ -49,13 +58,17 @@ impl LeastTrip {
     }
 
     /// The least round trip that is remembered at this time.
-    pub fn get(self, now: u64) -> Option<u64> {
+    pub fn get(self, now: u64) -> Option<u64>
+        ensures { result ≡ least_of (remembered self now) }
+    {
         self.at(now).last()
     }
 
     /// Whether the least round trip is forgotten when the next one is noted, though longer ones
     /// were measured since.
-    pub fn is_forgotten(self, now: u64) -> bool {
+    pub fn is_forgotten(self, now: u64) -> bool
+        ensures { result ≡ loses_least self now }
+    {
         match (self.present, self.before) {
             (Some(present), Some(before)) => before < present && now / PERIOD > self.period,
             _ => false,
@@ -63,7 +76,9 @@ impl LeastTrip {
     }
 
     /// Adds a round trip that was measured now.
-    pub fn note(&mut self, trip: u64, now: u64) {
+    pub fn note(&mut self, trip: u64, now: u64)
+        ensures { self.new ≡ noted self.old trip now }
+    {
         *self = self.at(now);
         self.present = Some(self.present.map_or(trip, |least| least.min(trip)));
     }
