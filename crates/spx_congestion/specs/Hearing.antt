@@ -2,7 +2,7 @@
 use Rattle.std.specs.Prelude.{ℕ, ◌+◌, ◌-◌, ◌≡◌, ◌<◌, ◌≤◌, ◌⊎◌, Bool, IsTrue, None, Some, false, min, true}
 use Rattle.spx_link.specs.declared.numbers.Numbers.{Numbers}
 use Rattle.spx_congestion.specs.Asking.{Asked, AsksUpTo, RunsOn}
-use Rattle.spx_congestion.specs.Measured.{IsBounded}
+use Rattle.spx_congestion.specs.Measured.{Answers, IsBounded, Samples, TripView}
 use Rattle.spx_congestion.specs.Pacing.{MendsOn, PacerView, WaitsOn, saturating_sum, flight, is_double, waited_since, with_outstanding}
 
 -- so many units were acknowledged, and so many are outstanding after that. The first of them was missing, and
@@ -95,6 +95,14 @@ Acknowledges old units out now new =
     (RepairsNothing old × OnlyMeasures (moved_on old units out now) new)
     ⊎ ((end : ℕ) × (old.recover ≡ Some end) × Repairs end (moved_on old units out now) now new)
 
+-- what an acknowledgement leaves of what was measured: at most one sample more, and none while something is repaired.
+-- The timeout is no longer doubled
+pub record Measures (old : PacerView) (trip : TripView) (now : ℕ) (new : PacerView) : Type 0 where
+  pub sample : TripView
+  pub samples : Samples trip now sample
+  pub once : (sample ≡ trip) ⊎ RepairsNothing old
+  pub is : new.trip ≡ record sample { doubled = 0 }
+
 -- at most one unit more was received, or at most one that was sent again is no longer in flight
 abbrev pub TakesOne : PacerView → PacerView → Type 0
 TakesOne old new = ((new.left ≡ old.left) × (new.in_flight ≡ old.in_flight))
@@ -126,7 +134,7 @@ Repeats old now new = TakesOneOut old new ⊎ TakesOneAndRepairs old now new
 -- so, once. `joined` is whether it is the reply to the request. What is acknowledged moves the base, and begins
 -- the timeout anew, undoubled. Any other packet leaves the base, and the timeout too, unless it takes a unit out
 -- of flight during a repair. No credit changes. How long the pacer waits changes only by an acknowledgement and
--- by the reply to the request
+-- by the reply to the request, which is measured first
 pub record Hears (old : PacerView) (before after : Numbers) (joined : Bool) (now : ℕ) (new : PacerView) : Type 0 where
   pub counts : new.out ≡ after.out
   pub moves : after.out < before.out → Acknowledges old (before.out - after.out) after.out now new
@@ -138,6 +146,8 @@ pub record Hears (old : PacerView) (before after : Numbers) (joined : Bool) (now
       → new.timer ≡ waited_since old.timer after.out now
   pub timed : IsBounded new.trip
   pub trip : joined ≡ false → before.out ≤ after.out → new.trip ≡ old.trip
+  pub answers : before.out ≤ after.out → Answers joined old.trip new.trip
+  pub measures : after.out < before.out → (trip : TripView) × Answers joined old.trip trip × Measures old trip now new
   pub counted : before.out ≤ after.out → is_double before after ≡ false
       → new ≡ record (with_outstanding old after.out now) { trip = new.trip }
   pub mends : MendsOn old now new

@@ -7,7 +7,7 @@ use Rattle.spx_congestion.specs.declared.plan.Plan.{Plan}
 use Rattle.spx_congestion.specs.declared.sent_kind.SentKind.{SentKind}
 use Rattle.spx_congestion.specs.declared.sent_kind.SentKind.TheVariants as Gaves
 use Rattle.spx_congestion.specs.Asking.{is_idle}
-use Rattle.spx_congestion.specs.Measured.{IsBounded, TripView, doubled_wait, end_wait, slack}
+use Rattle.spx_congestion.specs.Measured.{IsBounded, TripView, doubled_wait, end_wait, made_trip, slack}
 
 -- positions count units from 0. `out` units from `base` on are outstanding. `left` of them were received or
 -- are given up, and `in_flight` were sent again. Those from `from` up to `to` are to be sent again. The
@@ -54,7 +54,7 @@ made_pacer =
       window = 6912;
       credit = 2560;
       tick = 0;
-      trip = record { wait = 500; doubled = 0; smoothed = 500 };
+      trip = made_trip;
       timer = None;
       ended = false;
       recover = None;

@@ -2,8 +2,9 @@
 
 ghost use Rattle.std.specs.Prelude.{◌≡◌, ◌+◌, ◌<◌, ◌⊎◌, ◌&&◌, ◌==◌, IsTrue, None, Some};
 ghost use Rattle.std.specs.Prelude.{true};
-ghost use Rattle.spx_congestion.specs.Hearing.{Acknowledges, Hears, Repairs, Repeats};
-ghost use Rattle.spx_congestion.specs.Measured.{IsBounded};
+ghost use Rattle.spx_congestion.specs.Hearing.{Acknowledges, Hears, Measures, Repairs, Repeats};
+ghost use Rattle.spx_congestion.specs.Hearing.{RepairsNothing};
+ghost use Rattle.spx_congestion.specs.Measured.{Answers, IsBounded, Samples};
 ghost use Rattle.spx_congestion.specs.Pacing.{MendsOn, saturating_sum, flight};
 ghost use Rattle.spx_congestion.specs.Pacing.{waited_since};
 
@@ -25,9 +26,7 @@ impl Pacer {
     pub fn heard(&mut self, before: Numbers, after: Numbers, joined: bool, now: u64)
         ensures { Hears self.old before after joined now self.new }
     {
-        if joined {
-            self.answered(now);
-        }
+        self.answered(joined, now);
         let flight = self.flight();
         let units = before.out.saturating_sub(after.out);
         if units > 0 {
@@ -40,11 +39,14 @@ impl Pacer {
         }
     }
 
-    /// The request was answered.
-    fn answered(&mut self, now: u64)
+    /// If the packet is the reply to the request, the request was answered.
+    fn answered(&mut self, joined: bool, now: u64)
         ensures value { self.new ≡ record self.old { trip = self.new.trip } }
-        ensures doubled { self.new.trip.doubled ≡ self.old.trip.doubled }
+        ensures trip { Answers joined self.old.trip self.new.trip }
     {
+        if !joined {
+            return;
+        }
         if let Some(asked_at) = self.asked_at {
             self.trip.answer_request(now.saturating_sub(asked_at));
         }
@@ -62,10 +64,9 @@ impl Pacer {
         ensures ended { self.new.ended ≡ self.old.ended }
         ensures timed { IsBounded self.new.trip }
         ensures moves { Acknowledges self.old units out now self.new }
+        ensures measures { Measures self.old self.old.trip now self.new }
     {
-        if self.dup_acks == 0 && !self.repair.is_on() {
-            self.measure(units, now);
-        }
+        self.measure(units, now);
         self.trip.come_back();
         self.dup_acks = 0;
         self.base = self.base.saturating_add(u64::from(units));
@@ -82,11 +83,17 @@ impl Pacer {
     }
 
     /// The last unit that is acknowledged gives the round trip, if it was sent only once (RFC 6298,
-    /// Karn's rule). If the least round trip is then about to be forgotten, a possible queue is
+    /// Karn's rule), with no duplicate before it and nothing repaired. If the least round trip is then about to be forgotten, a possible queue is
     /// drained first, so that a longer path is not taken for a queue.
     fn measure(&mut self, units: u16, now: u64)
-        ensures { self.new ≡ record self.old { trip = self.new.trip; window = self.new.window } }
+        ensures value { self.new
+            ≡ record self.old { trip = self.new.trip; window = self.new.window } }
+        ensures samples { Samples self.old.trip now self.new.trip }
+        ensures once { (self.new.trip ≡ self.old.trip) ⊎ RepairsNothing self.old }
     {
+        if self.dup_acks > 0 || self.repair.is_on() {
+            return;
+        }
         let last = self.base.saturating_add(u64::from(units.saturating_sub(1)));
         if let Some(sent) = self.sent.at(last) {
             if let Some((least, trip)) = self.trip.forgotten(now) {

@@ -1,7 +1,10 @@
 //! The measured round trip, and the timeout of an acknowledgement (RFC 6298).
 
-ghost use Rattle.std.specs.Prelude.{◌≡◌, ◌==◌, ◌+◌, ◌-◌, ◌^◌, min};
-ghost use Rattle.spx_congestion.specs.Measured.{doubled_wait, slack, trip_of};
+ghost use Rattle.std.specs.Prelude.{◌≡◌, ◌==◌, ◌+◌, ◌-◌, ◌^◌, max, min, slice_set};
+ghost use Rattle.spx_congestion.specs.Measured.{answered, are_over, doubled_wait, made_trip};
+ghost use Rattle.spx_congestion.specs.Measured.{recent_before, sampled, slack, trip_of};
+ghost use Rattle.spx_congestion.specs.Measured.{turn_after, variation_on};
+ghost use Rattle.spx_congestion.specs.Remembered.{least_of};
 
 use crate::least_trip::LeastTrip;
 use crate::timeout::Timeout;
@@ -41,7 +44,7 @@ pub struct RoundTrip {
 impl RoundTrip {
     /// Nothing is measured yet.
     pub fn new() -> RoundTrip
-        ensures { trip_of result ≡ record { wait = 500; doubled = 0; smoothed = 500 } }
+        ensures { trip_of result ≡ made_trip }
     {
         RoundTrip {
             smooth: None,
@@ -57,16 +60,33 @@ impl RoundTrip {
 
     /// A request was answered at its first sending.
     pub fn answer_request(&mut self, trip: u64)
-        ensures { self.new.doubled ≡ self.old.doubled }
+        ensures { trip_of self.new ≡ answered (trip_of self.old) trip }
     {
         self.first = Some(trip);
         self.wait = Timeout::of(trip.saturating_mul(3));
     }
 
     /// A unit that was sent only once was acknowledged now.
-    pub fn sample(&mut self, trip: u64, now: u64) {
+    pub fn sample(&mut self, trip: u64, now: u64)
+        ensures { trip_of self.new ≡ sampled (trip_of self.old) (max trip 1) now }
+    {
         let trip = trip.max(1);
-        let smooth = match self.smooth {
+        let smooth = self.smooth_on(trip);
+        self.smooth = Some(smooth);
+        self.wait = Timeout::of((smooth / 8).saturating_add(self.variation.max(1)));
+        self.least.note(trip, now);
+        self.note(trip);
+    }
+
+    /// Eight times the smoothed round trip after a sample. The variation is what it is after it.
+    fn smooth_on(&mut self, trip: u64) -> u64
+        ensures value { result ≡ Rattle.spx_congestion.specs.Measured.smooth_on self.old.smooth trip }
+        ensures varies { self.new ≡ record self.old {
+          variation = variation_on self.old.smooth self.old.variation trip;
+          recent = recent_before self.old.smooth self.old.recent trip;
+        } }
+    {
+        match self.smooth {
             None => {
                 self.variation = trip.saturating_mul(2);
                 self.recent = [trip; RECENT];
@@ -77,16 +97,15 @@ impl RoundTrip {
                 self.variation = (self.variation - self.variation / 4).saturating_add(off);
                 (smooth - smooth / 8).saturating_add(trip)
             }
-        };
-        self.smooth = Some(smooth);
-        self.wait = Timeout::of((smooth / 8).saturating_add(self.variation.max(1)));
-        self.least.note(trip, now);
-        self.note(trip);
+        }
     }
 
     /// The round trip without a queue and the present one, if the first is about to be forgotten
     /// and there seems to be a queue on the line.
-    pub fn forgotten(&self, now: u64) -> Option<(u64, u64)> {
+    pub fn forgotten(&self, now: u64) -> Option<(u64, u64)>
+        ensures { result ≡ Rattle.spx_congestion.specs.Measured.forgotten (trip_of self.now) now
+            (least_of self.now.least) }
+    {
         let least = self.least.last()?;
         if self.least.is_forgotten(now) && self.is_over(least, 8, 16) {
             Some((least, self.smoothed()))
@@ -96,9 +115,14 @@ impl RoundTrip {
     }
 
     /// Adds a sample to the recent ones.
-    fn note(&mut self, trip: u64) {
-        if let Some(place) = self.recent.get_mut(self.turn) {
-            *place = trip;
+    fn note(&mut self, trip: u64)
+        ensures { self.new ≡ record self.old {
+          recent = slice_set self.old.recent self.old.turn trip;
+          turn = turn_after self.old.turn;
+        } }
+    {
+        if self.turn < RECENT {
+            self.recent[self.turn] = trip;
         }
         self.turn = if self.turn < RECENT - 1 {
             self.turn + 1
@@ -130,20 +154,26 @@ impl RoundTrip {
 
     /// Whether there is a queue on the line: the least of the last eight samples exceeds the least
     /// of the last seconds by an eighth, at least 4 and at most 16 (RFC 9406, its threshold).
-    pub fn is_queued(&self, now: u64) -> bool {
+    pub fn is_queued(&self, now: u64) -> bool
+        ensures { result ≡ Rattle.spx_congestion.specs.Measured.is_queued (trip_of self.now) now }
+    {
         let least = self.least.get(now);
         least.is_some_and(|least| self.is_over(least, 8, 16))
     }
 
     /// Whether a queue begins to form: the excess is a 32nd, at least 4 and at most 8.
-    pub fn is_slowing(&self, now: u64) -> bool {
+    pub fn is_slowing(&self, now: u64) -> bool
+        ensures { result ≡ Rattle.spx_congestion.specs.Measured.is_slowing (trip_of self.now) now }
+    {
         let least = self.least.get(now);
         least.is_some_and(|least| self.is_over(least, 32, 8))
     }
 
     /// Whether the last eight samples exceed the least one by that fraction of it, at least 4 and
     /// at most `most`.
-    fn is_over(&self, least: u64, part: u64, most: u64) -> bool {
+    fn is_over(&self, least: u64, part: u64, most: u64) -> bool
+        ensures { result ≡ are_over self.now.recent part most least }
+    {
         let over = (least / part.max(1)).max(4).min(most);
         self.recent
             .iter()
@@ -151,7 +181,9 @@ impl RoundTrip {
     }
 
     /// The timeout without doubling.
-    pub fn plain_wait(&self) -> u64 {
+    pub fn plain_wait(&self) -> u64
+        ensures { result ≡ (trip_of self.now).wait }
+    {
         self.wait.millis()
     }
 

@@ -45,6 +45,8 @@ heard_other p x y joined now u none =
         still = λ e f. refl;
         timed = u.timed;
         trip = λ e f. refl;
+        answers = λ e. inl refl;
+        measures = λ acked. absurd (omega (arith, acked, none));
         counted = λ e f. refl;
         mends = λ m. inr (m, refl, omega arith);
         ended = refl;
@@ -78,6 +80,8 @@ heard_plain p x y joined now u acked none =
         still = λ e f. absurd (omega (arith, acked, e));
         timed = u.timed;
         trip = λ e f. absurd (omega (arith, acked, f));
+        answers = λ e. absurd (omega (arith, acked, e));
+        measures = λ e. (p.trip, inl refl, record { sample = p.trip; samples = inl refl; once = inl refl; is = refl });
         counted = λ e f. absurd (omega (arith, acked, e));
         mends = λ is. absurd (cc (sym is ∙ quiet));
         ended = refl;
@@ -115,6 +119,8 @@ heard_last p x y joined now end u acked some done =
         still = λ e f. absurd (omega (arith, acked, e));
         timed = u.timed;
         trip = λ e f. absurd (omega (arith, acked, f));
+        answers = λ e. absurd (omega (arith, acked, e));
+        measures = λ e. (p.trip, inl refl, record { sample = p.trip; samples = inl refl; once = inl refl; is = refl });
         counted = λ e f. absurd (omega (arith, acked, e));
         mends = λ is. absurd (cc is);
         ended = refl;
@@ -186,6 +192,8 @@ heard_on p x y joined now end u acked some more =
         still = λ e f. absurd (omega (arith, acked, e));
         timed = u.timed;
         trip = λ e f. absurd (omega (arith, acked, f));
+        answers = λ e. absurd (omega (arith, acked, e));
+        measures = λ e. (p.trip, inl refl, record { sample = p.trip; samples = inl refl; once = inl refl; is = refl });
         counted = λ e f. absurd (omega (arith, acked, e));
         mends = λ is. mends_if (is_idle m.base p.from p.to || (nat_lt m.base (stop_of end run m) && (first_new m.base (asked_of m) == m.base))) p.mends p.fixed_at now p.tries is;
         ended = refl;
