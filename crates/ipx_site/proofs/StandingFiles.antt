@@ -67,9 +67,9 @@ routes_of_files law text s described start calls old new run h at e word quiet n
     let (listed, said_alone, heard, close) = subst (λ (w : StaticItem). MayAdvertise ports ns other w) says other_holds in
     said_alone k within_ns (same ∙ by ∙ sym source ∙ sym is))
     (subst (λ (ps : List Port). is_heard ps e ≡ true) (sym run.ports) hears) near
-    (asked_as (λ port bytes. (x : RipEntry) → DependsOnRoute s old new h e x → TellsItself n x.network port bytes → ⊥)
-    (λ port bytes. (x : RipEntry) → Contains n.routes.items x → DependsOn old new e x → TellsItself n x.network port bytes → ⊥)
-    (λ port bytes such x m needed. let (g, inside, source, says) = of_file x m in such x (needed, g, inside, source, says)) calls start (quiet n by)) now within)
+    (asked_as (λ port bytes. (x : RipEntry) → DependsOnRoute s old new h e x → TellsItself ports n x.network port bytes → ⊥)
+    (λ port bytes. (x : RipEntry) → Contains n.routes.items x → DependsOn old new e x → TellsItself old.core.router.ports n x.network port bytes → ⊥)
+    (λ port bytes such x m needed told. let (g, inside, source, says) = of_file x m in such x (needed, g, inside, source, says) (subst (λ (ps : List Port). TellsItself ps n x.network port bytes) run.ports told)) calls start (quiet n by)) now within)
 
 pub services_of_files : StaticServicesHold → ServicesOfFilesHold
 services_of_files law text s described start calls old new run h at e word quiet now within =
@@ -89,6 +89,6 @@ services_of_files law text s described start calls old new run h at e word quiet
     let (listed, said_alone, close) = subst (λ (w : StaticItem). MayAdvertise ports ns other w) says other_holds in
     said_alone k within_ns (same ∙ by ∙ sym source ∙ sym is))
     near
-    (asked_as (λ port bytes. (x : ServiceEntry) → DependsOnService s old new h e x → OffersItself n (key_of_service x) port bytes → ⊥)
-    (λ port bytes. (x : ServiceEntry) → Contains n.services.items x → DependsOn old new e x → OffersItself n (key_of_service x) port bytes → ⊥)
-    (λ port bytes such x m needed. let (g, inside, source, says) = of_file x m in such x (needed, g, inside, source, says)) calls start (quiet n by)) now within)
+    (asked_as (λ port bytes. (x : ServiceEntry) → DependsOnService s old new h e x → OffersItself ports n (key_of_service x) port bytes → ⊥)
+    (λ port bytes. (x : ServiceEntry) → Contains n.services.items x → DependsOn old new e x → OffersItself old.core.router.ports n (key_of_service x) port bytes → ⊥)
+    (λ port bytes such x m needed told. let (g, inside, source, says) = of_file x m in such x (needed, g, inside, source, says) (subst (λ (ps : List Port). OffersItself ps n (key_of_service x) port bytes) run.ports told)) calls start (quiet n by)) now within)

@@ -6,6 +6,7 @@ use Rattle.ipx_static.specs.WithStatics.{HearsUnder, WithStaticsView}
 use Rattle.ipx_static.specs.StaticRuns.{Asked, AsksOnceMore, Comes, DoStaticCalls, DoesStaticCall, IsAskedEachMinute, OffersItself, StaticCall, StaticCallAt, StaticsAreCountedSeparately, TellsItself, asked_by, asked_in, uncounted}
 use Rattle.ipx_router.specs.AdvertisedEntries.{key_of_service}
 use Rattle.ipx_config.specs.declared.site.RouterConfig.{RouterConfig}
+use Rattle.ipx_config.specs.SitePorts.{router_ports}
 use Rattle.ipx_site.specs.StaticsHold.{DependsOnRoute, DependsOnService, DoSiteCalls, DoesSiteCall, RoutesOfFilesHold, RoutesOfSitesHold, RunsAsSite, RunsByFile, ServicesOfFilesHold, ServicesOfSitesHold}
 use Rattle.ipx_rate_limits.specs.RateLimiter.{HearsRateLimited, RateLimiterView}
 use Rattle.ipx_control.specs.declared.rip.packet.RipEntry.{RipEntry}
@@ -93,12 +94,12 @@ pub routes_of_sites : StaticsAreCountedSeparately → RoutesOfFilesHold → Rout
 routes_of_sites apart law text s described start calls old new run h at e word quiet now within =
     let (left, are, below) = run_below apart s start calls old new run in
     law text s described start left (uncounted old.core.core) (uncounted new.core.core) below h at e word
-    (λ n by. each_minute (λ port bytes. (x : RipEntry) → DependsOnRoute s (uncounted old.core.core) (uncounted new.core.core) h e x → TellsItself n x.network port bytes → ⊥) calls left are start (quiet n by))
+    (λ n by. each_minute (λ port bytes. (x : RipEntry) → DependsOnRoute s (uncounted old.core.core) (uncounted new.core.core) h e x → TellsItself (router_ports s.ports.items) n x.network port bytes → ⊥) calls left are start (quiet n by))
     now (subst (λ it. now ≤ it + 60000) (sym (last_asked calls left are start)) within)
 
 pub services_of_sites : StaticsAreCountedSeparately → ServicesOfFilesHold → ServicesOfSitesHold
 services_of_sites apart law text s described start calls old new run h at e word quiet now within =
     let (left, are, below) = run_below apart s start calls old new run in
     law text s described start left (uncounted old.core.core) (uncounted new.core.core) below h at e word
-    (λ n by. each_minute (λ port bytes. (x : ServiceEntry) → DependsOnService s (uncounted old.core.core) (uncounted new.core.core) h e x → OffersItself n (key_of_service x) port bytes → ⊥) calls left are start (quiet n by))
+    (λ n by. each_minute (λ port bytes. (x : ServiceEntry) → DependsOnService s (uncounted old.core.core) (uncounted new.core.core) h e x → OffersItself (router_ports s.ports.items) n (key_of_service x) port bytes → ⊥) calls left are start (quiet n by))
     now (subst (λ it. now ≤ it + 60000) (sym (last_asked calls left are start)) within)

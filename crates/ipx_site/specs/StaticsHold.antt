@@ -77,7 +77,7 @@ RoutesOfFilesHold = (text : List ℕ) (s : RouterConfig) → IsSiteText text s �
     → (h : StaticEntry) → Contains s.statics.items h → (e : RipEntry) → h.word ≡ Route e
     → ((n : StaticNeighbour) → static_source n ≡ h.by
     → IsAskedEachMinute (λ port bytes. (x : RipEntry) → DependsOnRoute s old new h e x
-    → TellsItself n x.network port bytes → ⊥) calls start)
+    → TellsItself (router_ports s.ports.items) n x.network port bytes → ⊥) calls start)
     → (now : ℕ) → now ≤ asked_in calls start + 60000
     → Counts (route_metric e) now (routes_in new.core.router.routes (e.network, h.by))
 
@@ -88,7 +88,7 @@ ServicesOfFilesHold = (text : List ℕ) (s : RouterConfig) → IsSiteText text s
     → (h : StaticEntry) → Contains s.statics.items h → (e : ServiceEntry) → h.word ≡ Service e
     → ((n : StaticNeighbour) → static_source n ≡ h.by
     → IsAskedEachMinute (λ port bytes. (x : ServiceEntry) → DependsOnService s old new h e x
-    → OffersItself n (key_of_service x) port bytes → ⊥) calls start)
+    → OffersItself (router_ports s.ports.items) n (key_of_service x) port bytes → ⊥) calls start)
     → (now : ℕ) → now ≤ asked_in calls start + 60000
     → Counts (service_metric e) now (services_in new.core.router.services (key_of_service e, h.by))
 
@@ -122,7 +122,7 @@ RoutesOfSitesHold = (text : List ℕ) (s : RouterConfig) → IsSiteText text s �
     → ((n : StaticNeighbour) → static_source n ≡ h.by
     → IsAskedEachMinute (λ port bytes. (x : RipEntry)
     → DependsOnRoute s (uncounted old.core.core) (uncounted new.core.core) h e x
-    → TellsItself n x.network port bytes → ⊥) calls start)
+    → TellsItself (router_ports s.ports.items) n x.network port bytes → ⊥) calls start)
     → (now : ℕ) → now ≤ asked_in calls start + 60000
     → Counts (route_metric e) now (routes_in new.core.core.core.router.routes (e.network, h.by))
 
@@ -133,6 +133,6 @@ ServicesOfSitesHold = (text : List ℕ) (s : RouterConfig) → IsSiteText text s
     → ((n : StaticNeighbour) → static_source n ≡ h.by
     → IsAskedEachMinute (λ port bytes. (x : ServiceEntry)
     → DependsOnService s (uncounted old.core.core) (uncounted new.core.core) h e x
-    → OffersItself n (key_of_service x) port bytes → ⊥) calls start)
+    → OffersItself (router_ports s.ports.items) n (key_of_service x) port bytes → ⊥) calls start)
     → (now : ℕ) → now ≤ asked_in calls start + 60000
     → Counts (service_metric e) now (services_in new.core.core.core.router.services (key_of_service e, h.by))

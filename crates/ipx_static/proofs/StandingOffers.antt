@@ -13,6 +13,7 @@ use Rattle.ipx_router.specs.Answer.{Receives}
 use Rattle.ipx_router.specs.OutcomeView.{OutcomeView}
 use Rattle.ipx_router.specs.declared.port.Port.{Port}
 use Rattle.ipx_router.specs.declared.port.PortNow.{PortNow}
+use Rattle.ipx_router.specs.Ports.{IsPort}
 use Rattle.ipx_router.specs.Hearing.{is_heard, route_metric, service_metric, source_of}
 use Rattle.ipx_router.specs.Knowledge.{routes_in, services_in}
 use Rattle.ipx_router.specs.RouterView.{RouterView}
@@ -51,7 +52,7 @@ module _ (law : StaticRoutesAreOffers) (again : StaticRoutesAreRefreshed) (apart
   value_of_routes i r = routes_in r.routes (i.entry.network, static_source n)
 
   abbrev Quiet_routes : ℕ → List ℕ → Type 0
-  Quiet_routes port bytes = (x : RipEntry) → Contains n.routes.items x → DependsOn old new e x → TellsItself n x.network port bytes → ⊥
+  Quiet_routes port bytes = (x : RipEntry) → Contains n.routes.items x → DependsOn old new e x → TellsItself old.core.router.ports n x.network port bytes → ⊥
 
   hears_routes : (v w : WithStaticsView PriorityCoreView) (now : ℕ) → v.core.router.ports ≡ old.core.router.ports → v.advertisements ≡ old.advertisements → is_due v.refreshed_at now ≡ true → HearsIfDue PriorityHears v now w → HearsWithStatics ns now v w
   hears_routes v w now same_ports same_words due heard = record {
@@ -75,17 +76,17 @@ module _ (law : StaticRoutesAreOffers) (again : StaticRoutesAreRefreshed) (apart
       (λ x m hears near. stand (record { entry = x; among = m; needed = inr filled; near = near; heard = subst (λ (ps : List Port). is_heard ps x ≡ true) same_ports hears }))
       i.entry i.among (subst (λ (ps : List Port). is_heard ps i.entry ≡ true) (sym same_ports) i.heard) i.near
 
-  left_routes : (i : Needed_routes) (before after : RouterView) (port : ℕ) (bytes : List ℕ) (now : ℕ) (a : OutcomeView) → Quiet_routes port bytes → Receives before (port + 1) bytes now a after
+  left_routes : (i : Needed_routes) (before after : RouterView) (port : ℕ) (bytes : List ℕ) (now : ℕ) (a : OutcomeView) → before.ports ≡ old.core.router.ports → Quiet_routes port bytes → Receives before (port + 1) bytes now a after
       → value_of_routes i after ≡ still now (value_of_routes i before)
-  left_routes i before after port bytes now a such h =
+  left_routes i before after port bytes now a same_ports such h =
       let own = static_source n in
       routes_by before after (port + 1) bytes now h.answers.0 (value_of_routes i after ≡ still now (value_of_routes i before))
       (λ holds. holds (i.entry.network, own))
-      (λ d tail ipx entries rest is k holds.
+      (λ d tail ipx class entries rest is k holds.
       let at : PortNow = record { number = port + 1; port = h.answers.0; now = now } in
       holds (i.entry.network, own)
       ∙ leaves network_cmp network_total network_exact apart route_dead route_key route_metric (is_heard before.ports) now i.entry (near_enough i.entry.hops i.near) own (source_of at d.header) (take k entries) (after_age (routes_in before.routes) now)
-      (λ same y m key. such i.entry i.among i.needed (ap (λ (s : Source). s.port) same, d, tail, ipx, ap (λ (s : Source). s.neighbour) same, entries, rest, is, y, front_list k entries y m, key)))
+      (λ same y m key. such i.entry i.among i.needed (d, record { on_port = ap (λ (s : Source). s.port) same; arrived = h.answers.0; there = subst (λ (ps : List Port). IsPort ps (port + 1) h.answers.0) same_ports h.answers.1; tail = tail; packet = ipx; taken = class; of_node = ap (λ (s : Source). s.neighbour) same }, entries, rest, is, y, front_list k entries y m, key)))
       a h.answers.2
 
   first_routes : (i : Needed_routes) → value_of_routes i run.begins.0.core.router ≡ Some (metric_of_routes i, start)
@@ -124,7 +125,7 @@ module _ (law : StaticServicesAreOffers) (again : StaticServicesAreRefreshed) (a
   value_of_services i r = services_in r.services (key_of_service i.entry, static_source n)
 
   abbrev Quiet_services : ℕ → List ℕ → Type 0
-  Quiet_services port bytes = (x : ServiceEntry) → Contains n.services.items x → DependsOn old new e x → OffersItself n (key_of_service x) port bytes → ⊥
+  Quiet_services port bytes = (x : ServiceEntry) → Contains n.services.items x → DependsOn old new e x → OffersItself old.core.router.ports n (key_of_service x) port bytes → ⊥
 
   hears_services : (v w : WithStaticsView PriorityCoreView) (now : ℕ) → v.core.router.ports ≡ old.core.router.ports → v.advertisements ≡ old.advertisements → is_due v.refreshed_at now ≡ true → HearsIfDue PriorityHears v now w → HearsWithStatics ns now v w
   hears_services v w now same_ports same_words due heard = record {
@@ -148,17 +149,17 @@ module _ (law : StaticServicesAreOffers) (again : StaticServicesAreRefreshed) (a
       (λ x m near. stand (record { entry = x; among = m; needed = inr filled; near = near }))
       i.entry i.among i.near
 
-  left_services : (i : Needed_services) (before after : RouterView) (port : ℕ) (bytes : List ℕ) (now : ℕ) (a : OutcomeView) → Quiet_services port bytes → Receives before (port + 1) bytes now a after
+  left_services : (i : Needed_services) (before after : RouterView) (port : ℕ) (bytes : List ℕ) (now : ℕ) (a : OutcomeView) → before.ports ≡ old.core.router.ports → Quiet_services port bytes → Receives before (port + 1) bytes now a after
       → value_of_services i after ≡ still now (value_of_services i before)
-  left_services i before after port bytes now a such h =
+  left_services i before after port bytes now a same_ports such h =
       let own = static_source n in
       services_by before after (port + 1) bytes now h.answers.0 (value_of_services i after ≡ still now (value_of_services i before))
       (λ holds. holds (key_of_service i.entry, own))
-      (λ d tail ipx nearest entries rest is k holds.
+      (λ d tail ipx class nearest entries rest is k holds.
       let at : PortNow = record { number = port + 1; port = h.answers.0; now = now } in
       holds (key_of_service i.entry, own)
       ∙ leaves service_key_cmp service_key_total service_key_exact apart service_dead key_of_service service_metric each_service now i.entry (near_enough i.entry.hops i.near) own (source_of at d.header) (take k entries) (after_age (services_in before.services) now)
-      (λ same y m key. such i.entry i.among i.needed (ap (λ (s : Source). s.port) same, d, tail, ipx, ap (λ (s : Source). s.neighbour) same, nearest, entries, rest, is, y, front_list k entries y m, key)))
+      (λ same y m key. such i.entry i.among i.needed (d, record { on_port = ap (λ (s : Source). s.port) same; arrived = h.answers.0; there = subst (λ (ps : List Port). IsPort ps (port + 1) h.answers.0) same_ports h.answers.1; tail = tail; packet = ipx; taken = class; of_node = ap (λ (s : Source). s.neighbour) same }, nearest, entries, rest, is, y, front_list k entries y m, key)))
       a h.answers.2
 
   first_services : (i : Needed_services) → value_of_services i run.begins.0.core.router ≡ Some (metric_of_services i, start)

@@ -109,7 +109,7 @@ same_or_not before after = elim (bool_cases (full after == full before)) [
 -- ---- offers, each with its name
 
 module _ {M I : Type 0} (metric : I → M) (ports : List Port) (advertisements : List SendingView) (value : I → RouterView → Option (M × ℕ)) (IsSuch : ℕ → List ℕ → Type 0)
-    (receives : (i : I) (old new : RouterView) (port : ℕ) (bytes : List ℕ) (now : ℕ) (a : OutcomeView) → IsSuch port bytes → Receives old (port + 1) bytes now a new → value i new ≡ still now (value i old))
+    (receives : (i : I) (old new : RouterView) (port : ℕ) (bytes : List ℕ) (now : ℕ) (a : OutcomeView) → old.ports ≡ ports → IsSuch port bytes → Receives old (port + 1) bytes now a new → value i new ≡ still now (value i old))
     (tells : (i : I) (old new : RouterView) (now : ℕ) (told : List SendingView) → TellsNow old now told new → value i new ≡ still now (value i old))
     (Room : PriorityCoreView → PriorityCoreView → Type 0) (each_room : IsOfEach Room)
     (says : (old new : WithStaticsView PriorityCoreView) (now : ℕ) → old.core.router.ports ≡ ports → old.advertisements ≡ advertisements → is_due old.refreshed_at now ≡ true → HearsIfDue PriorityHears old now new
@@ -200,7 +200,7 @@ module _ {M I : Type 0} (metric : I → M) (ports : List Port) (advertisements :
         stands = λ i.
             let st = s.stands i in
             let young = young_within now asked s.last st.0 s.lately st.1 within in
-            (st.0, st.1, ap (value i) router ∙ receives i v.core.router h.0.1 port bytes now h.0.0 such h.0.2 ∙ still_there now st.0 (metric i) (value i v.core.router) st.2 young);
+            (st.0, st.1, ap (value i) router ∙ receives i v.core.router h.0.1 port bytes now h.0.0 s.same_ports such h.0.2 ∙ still_there now st.0 (metric i) (value i v.core.router) st.2 young);
         same_ports = ap (λ (r : RouterView). r.ports) router ∙ h.0.2.rest.ports ∙ s.same_ports;
         same_words = ap (λ (v : WithStaticsView PriorityCoreView). v.advertisements) h.1 ∙ s.same_words;
       }

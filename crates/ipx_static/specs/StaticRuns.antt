@@ -10,6 +10,11 @@ use Rattle.ipx_control.specs.Rip as rip
 use Rattle.ipx_control.specs.Sap.{IsSap}
 use Rattle.ipx_control.specs.Sap as sap
 use Rattle.ipx_tables.specs.declared.service.ServiceKey.{ServiceKey}
+use Rattle.ipx_router.specs.declared.classify.PacketClass.{PacketClass}
+use Rattle.ipx_router.specs.declared.classify.PacketClass.TheVariants as classes
+use Rattle.ipx_router.specs.declared.port.Port.{Port}
+use Rattle.ipx_router.specs.Classify.{class_of}
+use Rattle.ipx_router.specs.Ports.{IsPort}
 use Rattle.ipx_router.specs.Hearing.{is_heard, route_metric, service_metric}
 use Rattle.ipx_router.specs.Knowledge.{routes_in, services_in}
 use Rattle.ipx_router.specs.Advertisements.{is_due}
@@ -66,18 +71,27 @@ IsAskedEachMinute IsSuch [] asked = Unit {0}
 IsAskedEachMinute IsSuch (c ∷ cs) asked = (c.moment ≤ asked + 60000) × ComesAs IsSuch c.call
     × IsAskedEachMinute IsSuch cs (asked_by c.moment c.call asked)
 
--- bytes are a RIP response of the neighbour itself that names a network, or a SAP response of it that names a
--- service
-abbrev pub TellsItself : StaticNeighbour → Network → ℕ → List ℕ → Type 0
-TellsItself n network port bytes = (port + 1 ≡ n.port) × (p : PacketView) × (tail : List ℕ)
-    × IsIpx p bytes tail × (p.header.from.node ≡ n.node) × (entries : List RipEntry)
-    × (rest : List ℕ) × IsRip (rip.Response entries) p.body rest
+-- bytes come in on the neighbour's port and are a packet of its node, which a router with these ports takes as
+-- control of this kind: it is for this router or all nodes of that network, and for the socket of RIP or SAP
+pub record IsControlOf (ports : List Port) (n : StaticNeighbour) (kind : PacketClass) (port : ℕ) (bytes : List ℕ)
+    (p : PacketView) : Type 0 where
+  pub on_port : port + 1 ≡ n.port
+  pub arrived : Port
+  pub there : IsPort ports (port + 1) arrived
+  pub tail : List ℕ
+  pub packet : IsIpx p bytes tail
+  pub taken : class_of arrived p.header ≡ kind
+  pub of_node : p.header.from.node ≡ n.node
+
+-- that is a RIP response of the neighbour itself that names a network, or a SAP response of it that names a service
+abbrev pub TellsItself : List Port → StaticNeighbour → Network → ℕ → List ℕ → Type 0
+TellsItself ports n network port bytes = (p : PacketView) × IsControlOf ports n classes.Rip port bytes p
+    × (entries : List RipEntry) × (rest : List ℕ) × IsRip (rip.Response entries) p.body rest
     × (x : RipEntry) × Contains entries x × (x.network ≡ network)
 
-abbrev pub OffersItself : StaticNeighbour → ServiceKey → ℕ → List ℕ → Type 0
-OffersItself n key port bytes = (port + 1 ≡ n.port) × (p : PacketView) × (tail : List ℕ)
-    × IsIpx p bytes tail × (p.header.from.node ≡ n.node) × (nearest : Bool)
-    × (entries : List ServiceEntry) × (rest : List ℕ)
+abbrev pub OffersItself : List Port → StaticNeighbour → ServiceKey → ℕ → List ℕ → Type 0
+OffersItself ports n key port bytes = (p : PacketView) × IsControlOf ports n classes.Sap port bytes p
+    × (nearest : Bool) × (entries : List ServiceEntry) × (rest : List ℕ)
     × IsSap (sap.Response nearest entries) p.body rest
     × (x : ServiceEntry) × Contains entries x × (key_of_service x ≡ key)
 
@@ -110,7 +124,7 @@ StaticRoutesHold = (ns : List StaticNeighbour) (start : ℕ) (calls : List Stati
     → IsAdvertisedAlone route_key route_metric (λ m. m.routes.items) ns n x)
     → is_heard old.core.router.ports e ≡ true → e.hops < 16
     → IsAskedEachMinute (λ port bytes. (x : RipEntry) → Contains n.routes.items x
-    → DependsOn old new e x → TellsItself n x.network port bytes → ⊥) calls start
+    → DependsOn old new e x → TellsItself old.core.router.ports n x.network port bytes → ⊥) calls start
     → (now : ℕ) → now ≤ asked_in calls start + 60000
     → Counts (route_metric e) now (routes_in new.core.router.routes (e.network, static_source n))
 
@@ -123,7 +137,7 @@ StaticServicesHold = (ns : List StaticNeighbour) (start : ℕ) (calls : List Sta
     → IsAdvertisedAlone key_of_service service_metric (λ m. m.services.items) ns n x)
     → e.hops < 16
     → IsAskedEachMinute (λ port bytes. (x : ServiceEntry) → Contains n.services.items x
-    → DependsOn old new e x → OffersItself n (key_of_service x) port bytes → ⊥) calls start
+    → DependsOn old new e x → OffersItself old.core.router.ports n (key_of_service x) port bytes → ⊥) calls start
     → (now : ℕ) → now ≤ asked_in calls start + 60000
     → Counts (service_metric e) now
     (services_in new.core.router.services (key_of_service e, static_source n))
