@@ -3,3 +3,5 @@ pub mod Hearings
 pub mod PortRates
 pub mod PortTokens
 pub mod NarrowHearings
+pub mod EachQuery
+pub mod Either

@@ -8,7 +8,21 @@ use Rattle.token_bucket.specs.declared.bucket.TokenBucket.{TokenBucket}
 use Rattle.token_bucket.specs.TokenBucket.{most_in}
 use Rattle.ipx_rate_limits.specs.PortBuckets.{at_port}
 use Rattle.ipx_rate_limits.specs.TokenBuckets.{node_narrow, own_tokens}
-use Rattle.ipx_rate_limits.specs.RateLimiter.{HearsDirected, HearsNarrowWithToken, HearsWithToken, HearsRateLimited, RateLimiterView}
+use Rattle.ipx_rate_limits.specs.RateLimiter.{HearOutOfMemoryBelow, HearsDirected, HearsNarrowWithToken, HearsWithToken, HearsRateLimited, IsGeneralQuery, IsNarrowQuery, RateLimiterView}
+
+-- the core below receives what comes in: it hears it, or runs out of memory as it does
+abbrev pub Reaches : {C : Type 0} → (hears hear_out_of_memory : C → ℕ → List ℕ → ℕ → C → Type 0)
+    → C → ℕ → List ℕ → ℕ → C → Type 0
+Reaches hears hear_out_of_memory old port bytes now new =
+    hears old port bytes now new ⊎ hear_out_of_memory old port bytes now new
+
+-- what a core with limits does with what comes in, also if it runs out of memory, is what is said below of one whose
+-- core below is reached
+abbrev pub IsEachHearingLimited : {C : Type 0} → (hears hear_out_of_memory : C → ℕ → List ℕ → ℕ → C → Type 0) → Type 0
+IsEachHearingLimited {C} hears hear_out_of_memory =
+    (old new : RateLimiterView C) (port : ℕ) (bytes : List ℕ) (now : ℕ)
+    → HearsRateLimited hears old port bytes now new ⊎ HearOutOfMemoryBelow hear_out_of_memory old port bytes now new
+    → HearsRateLimited (Reaches hears hear_out_of_memory) old port bytes now new
 
 -- bytes that came in on a port at a time, and the core before and after it heard them
 pub record Coming (C : Type 0) : Type 0 where
@@ -25,6 +39,16 @@ AreSuch Is (c ∷ rest) n =
     (Is c × (m : ℕ) × (n ≡ m + 1) × AreSuch Is rest m) ⊎ ((Is c → ⊥) × AreSuch Is rest n)
 
 module _ {C : Type 0} (hears : C → ℕ → List ℕ → ℕ → C → Type 0) where
+  -- no query escapes: a general query that came in took a token, and a narrow query one of those, or the core below is
+  -- unchanged
+  abbrev pub IsEachQueryLimited : Type 0
+  IsEachQueryLimited = (old new : RateLimiterView C) (port : ℕ) (bytes : List ℕ) (now : ℕ)
+      → HearsRateLimited hears old port bytes now new
+      → ((who : Querier) → IsGeneralQuery old.ports port bytes who
+      → HearsWithToken hears old port bytes now new who ⊎ (new.core ≡ old.core))
+      × ((who : Querier) → IsNarrowQuery old.ports port bytes who
+      → HearsNarrowWithToken hears old port bytes now new who ⊎ (new.core ≡ old.core))
+
   -- they come one after another, at times that do not go back, from this time and this core on. What else
   -- happens to the core between two of them leaves the tokens unchanged
   abbrev pub Course : ℕ → RateLimiterView C → List (Coming C) → Type 0

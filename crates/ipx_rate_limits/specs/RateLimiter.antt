@@ -166,11 +166,17 @@ module _ {C : Type 0} (hears : C → ℕ → List ℕ → ℕ → C → Type 0) 
       ⊎ (HearsNarrow old port bytes now new
       ⊎ (HearsBroadcast old port bytes now new ⊎ HearsBelow old port bytes now new))
 
--- the core below runs out of memory as it hears, and no token was taken
+  -- the core below does this with what comes in. A general query, a narrow query and a directed broadcast took their
+  -- tokens
+  abbrev pub PassesOn : RateLimiterView C → ℕ → List ℕ → ℕ → RateLimiterView C → Type 0
+  PassesOn old port bytes now new = ((who : Querier) × HearsWithToken old port bytes now new who)
+      ⊎ (((who : Querier) × HearsNarrowWithToken old port bytes now new who)
+      ⊎ (((it : DirectedBroadcast) × HearsDirected old port bytes now new it) ⊎ HearsBelow old port bytes now new))
+
+-- the core below runs out of memory for what it was passed
 abbrev pub HearOutOfMemoryBelow : {C : Type 0} → (C → ℕ → List ℕ → ℕ → C → Type 0)
     → RateLimiterView C → ℕ → List ℕ → ℕ → RateLimiterView C → Type 0
-HearOutOfMemoryBelow hear_out_of_memory old port bytes now new =
-    hear_out_of_memory old.core port bytes now new.core × (new ≡ record old { core = new.core })
+HearOutOfMemoryBelow hear_out_of_memory old port bytes now new = PassesOn hear_out_of_memory old port bytes now new
 
 -- it gives what the core below gives
 abbrev pub GivesBelow : {C : Type 0} → (C → ℕ → Option Given → C → Type 0)

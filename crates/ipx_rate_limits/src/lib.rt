@@ -18,8 +18,9 @@ pub use port_buckets::PortBuckets;
 pub use port_limits::limits_of;
 pub use querier::{Querier, QueryDrops, general_query_from};
 pub use query_rate::{
-    directed_rate_is_bounded, narrow_rate_is_bounded, node_narrow_rate_is_bounded,
-    port_query_rate_is_bounded, query_rate_is_bounded,
+    directed_rate_is_bounded, each_hearing_is_limited, each_query_is_limited,
+    narrow_rate_is_bounded, node_narrow_rate_is_bounded, port_query_rate_is_bounded,
+    query_rate_is_bounded,
 };
 pub use rate_limiter::RateLimiter;
 pub use token_buckets::TokenBuckets;

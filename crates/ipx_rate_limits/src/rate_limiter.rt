@@ -25,7 +25,8 @@ use std::marker::Model;
 /// A querier is a node at a port. For general queries it has 8 tokens, of which one comes back each
 /// second. For narrow queries it has half as many as its port, of which two come back each second.
 /// All queriers at a port also share the tokens of the port. A query takes a token of both, or of
-/// neither. Of each kind, at most 1,024 queriers with missing tokens are remembered. If there are
+/// neither, also if the core below runs out of memory for it, since that has worked then. Of each
+/// kind, at most 1,024 queriers with missing tokens are remembered. If there are
 /// that many, a new querier has no token. A directed broadcast takes a token of the port by which it
 /// leaves.
 pub struct RateLimiter<C: Core + Drop> {
@@ -127,9 +128,9 @@ impl<C: Core + Drop> RateLimiter<C> {
             QueryDrops::saturating_increment(&mut self.kept, querier);
             return Ok(());
         }
-        self.core.hear(alloc, port, bytes, now)?;
+        let heard = self.core.hear(alloc, port, bytes, now);
         self.buckets.take_token(querier, now);
-        Ok(())
+        heard
     }
 
     /// Passes on a narrow query that came by a port, or drops it.
@@ -152,9 +153,9 @@ impl<C: Core + Drop> RateLimiter<C> {
             QueryDrops::saturating_increment(&mut self.kept, querier);
             return Ok(());
         }
-        self.core.hear(alloc, port, bytes, now)?;
+        let heard = self.core.hear(alloc, port, bytes, now);
         self.buckets.take_narrow_token(querier, now);
-        Ok(())
+        heard
     }
 
     /// Passes on a directed broadcast that came by a port, or drops it.
@@ -178,9 +179,9 @@ impl<C: Core + Drop> RateLimiter<C> {
             self.directed.saturating_increment(broadcast.from);
             return Ok(());
         }
-        self.core.hear(alloc, port, bytes, now)?;
+        let heard = self.core.hear(alloc, port, bytes, now);
         self.buckets.take_directed_token(broadcast.leaves_by, now);
-        Ok(())
+        heard
     }
 }
 

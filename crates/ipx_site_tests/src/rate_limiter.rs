@@ -487,13 +487,13 @@ fn no_directed_broadcast_or_all(rt: HostRuntime) -> Result<(), AllocError> {
 }
 
 #[test]
-fn no_directed_token_if_out_of_memory(rt: HostRuntime) -> Result<(), AllocError> {
-    let mut ears = ears(rt.alloc(), 100)?;
+fn a_directed_token_is_taken_if_out_of_memory(rt: HostRuntime) -> Result<(), AllocError> {
+    let mut ears = ears(rt.alloc(), 10)?;
     let to = every_node(AWAY, Socket(0x4002));
-    from_afar(&mut ears, rt.alloc(), to, 100, 0);
+    from_afar(&mut ears, rt.alloc(), to, 10, 0);
     assert_eq!(rt; ears.core().heard, 0);
     from_afar(&mut ears, rt.alloc(), to, 20, 0);
-    assert_eq!(rt; ears.core().heard, 16);
+    assert_eq!(rt; ears.core().heard, 6);
     Ok(())
 }
 
@@ -536,23 +536,22 @@ fn what_asks_for_all(rt: HostRuntime) -> Result<(), AllocError> {
 }
 
 #[test]
-fn no_turn_where_memory_is_refused(rt: HostRuntime) -> Result<(), AllocError> {
+fn a_turn_is_taken_if_out_of_memory(rt: HostRuntime) -> Result<(), AllocError> {
     let mut ears = ears(rt.alloc(), 100)?;
-    for _time in 0..100 {
+    for time in 0..100 {
         assert!(rt;
-            !hear(
+            hear(
                 &mut ears,
                 rt.alloc(),
                 2,
                 (HERE, Socket::SAP),
                 &ALL_SERVICES,
                 0
-            )
+            ) == (time >= 8)
         );
     }
-    assert!(rt; ears.kept() == kept(0, None));
-    ask(&mut ears, rt.alloc(), 2, 9, 0);
-    assert_eq!(rt; ears.core().heard, 8);
+    assert!(rt; ears.kept() == kept(92, Some([10, 0, 0, 2])));
+    assert_eq!(rt; ears.core().heard, 0);
     Ok(())
 }
 

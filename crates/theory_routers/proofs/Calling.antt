@@ -13,8 +13,8 @@ use Rattle.ipx_carrier.specs.RouterQueues.{IsNotAdvertised, given_of}
 use Rattle.ipx_carrier.specs.Turns.{Given}
 use Rattle.ipx_metrics.specs.MeteredRouter.{CountedView, CountsAsItGives, CountsHeard, CountsMissed, CountsWithheld, without_counts}
 use Rattle.ipx_static.specs.StaticAdvertisements.{AreStaticAdvertisements}
-use Rattle.ipx_static.specs.WithStatics.{GivesWithStatics, HearsUnder, NextOutOfMemoryWithStatics, WithStaticsView}
-use Rattle.ipx_rate_limits.specs.RateLimiter.{HearsRateLimited, RateLimiterView}
+use Rattle.ipx_static.specs.WithStatics.{GivesWithStatics, HearOutOfMemoryUnder, HearsUnder, NextOutOfMemoryWithStatics, WithStaticsView}
+use Rattle.ipx_rate_limits.specs.RateLimiter.{HearOutOfMemoryBelow, HearsRateLimited, RateLimiterView}
 use Rattle.ipx_site.specs.SiteCore.{SiteCore, SiteHears}
 use Rattle.theory_processes.specs.HostCalls.{Source}
 use Rattle.theory_processes.specs.Loops.{if_given, router_gave}
@@ -82,6 +82,17 @@ limited old new port bytes now h = elim h [
       | inl directed ↦ elim directed [ inl heard ↦ inr heard.1.2 | inr drop ↦ inl (ap (λ (c : RateLimiterView W). c.core) drop.3) ]
       | inr any ↦ inr any.3
     ]
+  ]
+]
+
+-- or it runs out of memory
+lost_below : (old new : RateLimiterView W) (port : ℕ) (bytes : List ℕ) (now : ℕ) → HearOutOfMemoryBelow (HearOutOfMemoryUnder CountsMissed) old port bytes now new
+    → HearOutOfMemoryUnder CountsMissed old.core port bytes now new.core
+lost_below old new port bytes now h = elim h [
+  | inl query ↦ query.1.2
+  | inr others ↦ elim others [
+    | inl narrow ↦ narrow.1.2
+    | inr more ↦ elim more [ inl directed ↦ directed.1.2 | inr any ↦ any.3 ]
   ]
 ]
 
@@ -222,7 +233,8 @@ module _ (one_ipx : OneIpx) (one_rip : OneRip) (one_sap : OneSap) where
   call_done (HearOutOfMemoryOn port bytes now) old new sound does =
       done (HearOutOfMemoryOn port bytes now) old new sound []
       (rests (HearOutOfMemoryOn port bytes now) old.core.core new.core.core refl
-      (record { core = missed (router_in old) (router_in new) port bytes now does.1.0.0.0; statics = ap (λ (w : W). w.advertisements) does.1.0.1 }))
+      (let below = lost_below old.core new.core port bytes now does.1 in
+      record { core = missed (router_in old) (router_in new) port bytes now below.0.0; statics = ap (λ (w : W). w.advertisements) below.1 }))
   call_done (Passes now given) old new sound does =
       let it = gives old.core.core new.core.core now given sound.networks (quiet old sound) does.0.0 in
       done (Passes now given) old new sound it.0 it.1
