@@ -13,7 +13,7 @@ use std::test::Fail;
 
 const PORT: ServerPort = ServerPort {
     network: Network(0xd05b),
-    own: Node([2, 0, 0, 0, 0xd0, 0x5b]),
+    own: TAKEN_NODE,
     secret: SECRET,
 };
 
@@ -51,7 +51,14 @@ fn third_place() -> SocketAddrV4 {
     SocketAddrV4::new(*first_place().ip(), 48201)
 }
 
-/// The nodes of the two players, as another program computes them.
+/// The place whose node is the router's.
+fn taken_place() -> SocketAddrV4 {
+    SocketAddrV4::new(*unknown_place().ip(), 48200)
+}
+
+/// The nodes of that place and of the two players, as another program computes them.
+const TAKEN_NODE: Node = Node([2, 0xf3, 0xa5, 0xa0, 0xa6, 0xa6]);
+
 const FIRST_NODE: Node = Node([2, 0xc3, 0x7e, 0xce, 0x67, 0xfc]);
 
 const SECOND_NODE: Node = Node([2, 4, 0x8c, 0xef, 0xf4, 0x3a]);
@@ -89,8 +96,6 @@ enum Sent {
     Registration,
     /// The same after fourteen more players of the first one's IP address came.
     AfterMore,
-    /// The same after a joined router showed that its node is there.
-    AfterJoined,
     /// A packet to a socket of a node, from another node, each with its network. Its body begins
     /// with 0002.
     Packet((u32, Node, u16), (u32, Node)),
@@ -136,7 +141,7 @@ fn of_place(reason: &'static str, joined: bool, from: SocketAddrV4, sent: Sent) 
 fn rows() -> [Row; 16] {
     [
         of_place("malformed", false, first_place(), Sent::Three),
-        of_place("node_taken", true, unknown_place(), Sent::AfterJoined),
+        of_place("node_taken", false, taken_place(), Sent::Registration),
         of_place("full_of_address", false, third_place(), Sent::AfterMore),
         Row {
             reason: "full",
@@ -216,11 +221,6 @@ fn put(sockets: &mut MemoryPlaces, from: SocketAddrV4, sent: Sent) -> Result<(),
             for udp_port in 1..15_u16 {
                 enter(sockets, SocketAddrV4::new(*second_place().ip(), udp_port))?;
             }
-            sockets.put(0, from, &REGISTRATION)?;
-        }
-        Sent::AfterJoined => {
-            let shown = packet(34, (0, Node::BROADCAST, 2), (0, node_of(PORT, from)));
-            sockets.put(0, south_place(), &shown[..34])?;
             sockets.put(0, from, &REGISTRATION)?;
         }
         Sent::Packet(to, source) => sockets.put(0, from, &packet(34, to, source)[..34])?,

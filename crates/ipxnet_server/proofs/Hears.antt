@@ -16,7 +16,7 @@ use Rattle.ipxnet_server.specs.declared.peer_servers.RemoteClient.{RemoteClient}
 use Rattle.ipxnet_server.specs.declared.recipients.Recipients.{Recipients}
 use Rattle.ipxnet_server.specs.declared.recipients.Recipients.TheVariants.{One, Here, Joined, JoinedAt}
 use Rattle.ipxnet_server.specs.ServerClients.{are_one_place, is_address_full, is_server_full, client_at, client_of_node, has_client_node, is_client_at, node_of_place}
-use Rattle.ipxnet_server.specs.ServerHears.{IsAnswer, ServerView, all_hear, all_hear_joined, client_hears, core_hears, hear_remote, remote_source, goes_to_core, is_for_server, is_from_server, is_joined_taker, is_node_here, is_node_taken, is_not_behind, is_of_client, is_of_joined, is_registration, is_taker, is_to_all_nodes, is_to_service, joined_hears, joined_takers, server_hears, server_hears_elsewhere, server_hears_from, server_hears_here, server_socket, may_reach_core, max_client_bytes, registration_drop, new_client_hears, one_hears_joined, ping_answer, registration_answer, registration_hears, router_hears, stranger_drop, stranger_hears, takers_of, tells_router, makes_client}
+use Rattle.ipxnet_server.specs.ServerHears.{IsAnswer, ServerView, all_hear, all_hear_joined, client_hears, core_hears, hear_remote, remote_source, goes_to_core, is_for_server, is_from_server, is_joined_taker, is_node_here, is_not_behind, is_of_client, is_of_joined, is_registration, is_taker, is_to_all_nodes, is_to_service, joined_hears, joined_takers, server_hears, server_hears_elsewhere, server_hears_from, server_hears_here, server_socket, may_reach_core, max_client_bytes, registration_drop, new_client_hears, one_hears_joined, ping_answer, registration_answer, registration_hears, router_hears, stranger_drop, stranger_hears, takers_of, tells_router, makes_client}
 use Rattle.ipxnet_server.specs.PeerServers.{remote_client_of, is_joined_place}
 use Rattle.ipxnet_server.specs.ServerInside.{IsSoundHearing, StaysAmongClients}
 use Rattle.ipx_wire.specs.declared.address.Node.{Node}
@@ -41,10 +41,6 @@ left_true false b e = cc
 right_false : (a b : Bool) → (a || b) ≡ false → b ≡ false
 right_false true b e = cc
 right_false false b e = e
-
-left_false : (a b : Bool) → (a || b) ≡ false → a ≡ false
-left_false true b e = cc
-left_false false b e = refl
 
 first_none : (b : Bool) (d : ServerDrop) (o : Option ServerDrop) → (if b then Some d else o) ≡ None → b ≡ false
 first_none true d o e = cc
@@ -95,8 +91,7 @@ free_node : (l : ServerView) (from : SocketAddrV4) (now : ℕ) → registration_
 free_node l from now e =
     let node : Node = node_of_place l.port from in
     let rest : Option ServerDrop = if is_address_full now from l.clients then Some FullOfAddress else if is_server_full l.max_clients now l.clients then Some Full else None in
-    let taken : is_node_taken l node ≡ false = first_none (is_node_taken l node) (NodeTaken node) rest e in
-    let here : is_node_here l.port l.clients node ≡ false = left_false (is_node_here l.port l.clients node) (is_some (remote_client_of node l.far)) taken in
+    let here : is_node_here l.port l.clients node ≡ false = first_none (is_node_here l.port l.clients node) (NodeTaken node) rest e in
     is_none (client_of_node node l.clients) (right_false (bytes_eq node.0 l.port.own.0 || bytes_eq node.0 broadcast_node) (is_some (client_of_node node l.clients)) here)
 
 rest_none : (b : Bool) (d : ServerDrop) (o : Option ServerDrop) → (if b then Some d else o) ≡ None → o ≡ None
@@ -107,7 +102,7 @@ room_at : (l : ServerView) (from : SocketAddrV4) (now : ℕ) → registration_dr
 room_at l from now e =
     let last : Option ServerDrop = if is_server_full l.max_clients now l.clients then Some Full else None in
     let rest : Option ServerDrop = if is_address_full now from l.clients then Some FullOfAddress else last in
-    let free : rest ≡ None = rest_none (is_node_taken l (node_of_place l.port from)) (NodeTaken (node_of_place l.port from)) rest e in (
+    let free : rest ≡ None = rest_none (is_node_here l.port l.clients (node_of_place l.port from)) (NodeTaken (node_of_place l.port from)) rest e in (
       first_none (is_address_full now from l.clients) FullOfAddress last free,
       first_none (is_server_full l.max_clients now l.clients) Full None (rest_none (is_address_full now from l.clients) FullOfAddress last free),
     )

@@ -4,6 +4,7 @@ pub mod Once
 pub mod Still
 pub mod Remains
 pub mod Showed
+pub mod Free
 pub mod Learned
 pub mod PingTimes
 pub mod Notes

@@ -1,5 +1,5 @@
 -- Which clients are known, once one was heard.
-use Rattle.std.proofs.Common.{◌≡◌, ◌+◌, ◌-◌, ℕ, List, [], ◌∷◌, ◌++◌, Bool, true, false, Option, Some, None, length, take, drop, filter, find, not, cond, refl, sym, ap, subst, ◌∙◌, take-append-drop}
+use Rattle.std.proofs.Common.{◌≡◌, ◌+◌, ◌-◌, ℕ, List, [], ◌∷◌, ◌++◌, Bool, true, false, Option, Some, None, length, take, drop, filter, find, not, cond, ◌⊎◌, inl, inr, refl, sym, ap, subst, ◌∙◌, take-append-drop}
 use Rattle.std.specs.Prelude.{is_some, IfOk, Ok, Err, Result, ◌==◌, ◌&&◌, ◌||◌, nat_lt, if◌then◌else◌}
 use Rattle.std.specs.Option.{option_or}
 use Rattle.std.specs.Net.Addr.{ipv4_octets}
@@ -23,7 +23,7 @@ use Rattle.ipx_wire.specs.declared.address.Node.{Node}
 use Rattle.ipx_wire.specs.declared.ipx.packet.IpxHeader.{IpxHeader}
 use Rattle.ipxnet_server.specs.ServerClients.{are_one_place, client_at, client_heard, client_of_node, client_that_goes, clients_but, clients_heard, clients_moved, clients_with, is_client_at, new_client, node_of_place}
 use Rattle.ipxnet_server.specs.NotedPlaces.{places_noted}
-use Rattle.ipxnet_server.specs.ServerHears.{ServerView, attempts_noted, all_get, client_gets, is_from_server, is_given_from_server, is_given_to_service, is_joined_taker, is_of_client, is_of_joined, is_to_service, joined_takers, server_gives, server_hearing, server_learned, max_client_bytes}
+use Rattle.ipxnet_server.specs.ServerHears.{BecameClient, ServerView, attempts_noted, all_get, client_gets, is_from_server, is_given_from_server, is_given_to_service, is_joined_taker, is_of_client, is_of_joined, is_to_service, joined_takers, server_gives, server_hearing, server_learned, max_client_bytes}
 use Rattle.ipxnet_server.specs.PeerServers.{is_joined_place, remote_client_of}
 use Rattle.ipxnet_server.specs.ServerInside.{MayKnow, Known, Same}
 use Rattle.ipxnet_server.proofs.Hears.{taker_known}
@@ -238,10 +238,25 @@ pub met_joined : (from : SocketAddrV4) (now : ℕ) (l m : ServerView) → MayKno
 met_joined from now l m (Same e) is = e
 met_joined from now l m (Known apart none few room e) is = cc
 
--- only its clients, and who is noted, can be others
-pub met_rest : (from : SocketAddrV4) (now : ℕ) (l m : ServerView) → MayKnow from now l m → record m { clients = l.clients; noted = l.noted } ≡ l
-met_rest from now l m (Same e) = ap (λ (v : ServerView). record v { clients = l.clients; noted = l.noted }) e
-met_rest from now l m (Known apart none few room e) = ap (λ (v : ServerView). record v { clients = l.clients; noted = l.noted }) e
+-- only its clients, those of joined routers, and who is noted, can be others
+pub met_rest : (from : SocketAddrV4) (now : ℕ) (l m : ServerView) → MayKnow from now l m → record m { clients = l.clients; far = l.far; noted = l.noted } ≡ l
+met_rest from now l m (Same e) = ap (λ (v : ServerView). record v { clients = l.clients; far = l.far; noted = l.noted }) e
+met_rest from now l m (Known apart none few room e) = ap (λ (v : ServerView). record v { clients = l.clients; far = l.far; noted = l.noted }) e
+
+-- those of joined routers are others only if it became a client
+pub met_far : (from : SocketAddrV4) (now : ℕ) (l m : ServerView) → MayKnow from now l m → (m.far ≡ l.far) ⊎ BecameClient from l m
+met_far from now l m (Same e) = inl (ap (λ (v : ServerView). v.far) e)
+met_far from now l m (Known apart none few room e) = inr (record {
+  was = none;
+  is = ap (λ (v : ServerView). is_some (client_at from v.clients)) e ∙ ap is_some (new_found l.max_clients now (node_of_place l.port from) from l.clients none);
+  far = ap (λ (v : ServerView). v.far) e;
+})
+
+-- and so they are later, if nothing was learned
+pub far_later : (from : SocketAddrV4) (l m after : ServerView) → after.far ≡ m.far → (is_some (client_at from m.clients) ≡ true → is_some (client_at from after.clients) ≡ true)
+    → (m.far ≡ l.far) ⊎ BecameClient from l m → (after.far ≡ l.far) ⊎ BecameClient from l after
+far_later from l m after same keeps (inl e) = inl (same ∙ e)
+far_later from l m after same keeps (inr became) = inr (record { was = became.was; is = keeps became.is; far = same ∙ became.far })
 
 -- ---- what no datagram changes
 

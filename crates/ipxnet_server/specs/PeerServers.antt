@@ -35,10 +35,13 @@ was_remote_heard now f = nat_lt (now - f.heard) remote_forgotten_after
 abbrev pub remote_clients_left : ℕ → List RemoteClient → List RemoteClient
 remote_clients_left now far = filter (was_remote_heard now) far
 
+-- the clients but the one of a node
+abbrev pub remote_clients_but : Node → List RemoteClient → List RemoteClient
+remote_clients_but node far = filter (λ f. not (has_remote_node node f)) far
+
 -- the client of a node is heard through a router. It is then known once, as the last one, and if there are
 -- too many the first one goes
 abbrev pub remote_clients_heard : Node → SocketAddrV4 → ℕ → List RemoteClient → List RemoteClient
 remote_clients_heard node router now far =
-    drop (length (filter (λ f. not (has_remote_node node f)) far) + 1 - max_remote_clients)
-    (filter (λ f. not (has_remote_node node f)) far)
+    drop (length (remote_clients_but node far) + 1 - max_remote_clients) (remote_clients_but node far)
     ++ record { node = node; router = router; heard = now } ∷ []

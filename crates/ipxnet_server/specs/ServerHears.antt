@@ -27,7 +27,7 @@ use Rattle.token_bucket.specs.declared.bucket.TokenBucket.{TokenBucket}
 use Rattle.token_bucket.specs.TokenBucket.{full_bucket}
 use Rattle.ipxnet_server.specs.ServerClients.{are_one_place, is_client_of_ip, is_address_full, is_server_full, client_at, client_of_node, clients_heard, clients_left, clients_with, node_of_place}
 use Rattle.ipxnet_server.specs.ServerCounted.{drop_counted, no_drops}
-use Rattle.ipxnet_server.specs.PeerServers.{remote_client_of, remote_clients_heard, remote_clients_left, is_joined_place}
+use Rattle.ipxnet_server.specs.PeerServers.{remote_client_of, remote_clients_but, remote_clients_heard, remote_clients_left, is_joined_place}
 use Rattle.ipxnet_server.specs.Pings.{is_one_asked, is_one_pinged}
 use Rattle.ipxnet_server.specs.Attempts.{AttemptsView, attempts_after, no_repeats}
 use Rattle.ipxnet_server.specs.NotedPlaces.{noted_left, noted_without, places_noted}
@@ -119,20 +119,16 @@ may_reach_core port p = is_from_server port p.header && not (tells_router p)
 
 -- ---- what becomes of it: the first case that applies
 
--- the node is the router's, the broadcast node or a client's
+-- the node is the router's, the broadcast node or a client's: no new client can have it. A node that a joined router
+-- said to be there is free: it is that of an address here only by chance, or if somebody forged what that router sent
 abbrev pub is_node_here : ServerPort → List Client → Node → Bool
 is_node_here port known node = bytes_eq node.0 port.own.0 || bytes_eq node.0 broadcast_node
     || is_some (client_of_node node known)
 
--- no new client can have this node: one of these, or that of a client of a joined router
-abbrev pub is_node_taken : ServerView → Node → Bool
-is_node_taken l node =
-    is_node_here l.port l.clients node || is_some (remote_client_of node l.far)
-
 -- why a registration is refused, from an address where no client is known
 abbrev pub registration_drop : ServerView → SocketAddrV4 → ℕ → Option ServerDrop
 registration_drop l from now =
-    if is_node_taken l (node_of_place l.port from) then Some (NodeTaken (node_of_place l.port from))
+    if is_node_here l.port l.clients (node_of_place l.port from) then Some (NodeTaken (node_of_place l.port from))
     else if is_address_full now from l.clients then Some FullOfAddress
     else if is_server_full l.max_clients now l.clients then Some Full
     else None
@@ -417,10 +413,11 @@ server_noting from now l =
     if is_some (client_at from l.clients) then l
     else record l { noted = places_noted from now l.noted; attempts = attempts_noted from now l }
 
--- who sent from an address became a client, by the node of that
+-- who sent from an address became a client, by the node of that. So the node is at no joined router
 abbrev pub server_admitting : SocketAddrV4 → ℕ → ServerView → ServerView
 server_admitting from now l = record l {
   clients = clients_with l.max_clients (node_of_place l.port from) from now l.clients;
+  far = remote_clients_but (node_of_place l.port from) l.far;
   noted = noted_without from l.noted;
 }
 
@@ -455,6 +452,12 @@ server_hearing (Dropped drop) from now l = server_dropping drop l
 -- silent clients are pinged
 abbrev pub server_pinging : ℕ → ServerView → ServerView
 server_pinging now l = record (server_aged now l) { pinged = now }
+
+-- who sent from an address is a client, and was none before. Its node is known at no joined router any more
+pub record BecameClient (from : SocketAddrV4) (old new : ServerView) : Type 0 where
+  pub was : client_at from old.clients ≡ None
+  pub is : is_some (client_at from new.clients) ≡ true
+  pub far : new.far ≡ remote_clients_but (node_of_place old.port from) old.far
 
 -- a turn at this time pings somebody, after the one before
 abbrev pub is_ping_due : ServerView → ℕ → Bool

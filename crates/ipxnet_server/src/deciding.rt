@@ -4,7 +4,7 @@ ghost use Rattle.std.specs.Prelude.{◌≡◌, [], None, false, true};
 ghost use Rattle.ipx_wire.specs.Ipx.{packet_view};
 ghost use Rattle.ipxnet_server.specs.PeerServers.{is_joined_place};
 ghost use Rattle.ipxnet_server.specs.ServerClients.{client_at, client_of_node, is_address_full, is_server_full, node_of_place};
-ghost use Rattle.ipxnet_server.specs.ServerHears.{client_hears, hear_remote, is_node_here, is_node_taken, is_not_behind, joined_hears, server_hears};
+ghost use Rattle.ipxnet_server.specs.ServerHears.{client_hears, hear_remote, is_node_here, is_not_behind, joined_hears, server_hears};
 ghost use Rattle.ipxnet_server.specs.ServerHears.{server_hears_from, server_hears_here, registration_drop, registration_hears, makes_client, stranger_drop, stranger_hears};
 
 use crate::client_node::node_of;
@@ -20,7 +20,7 @@ use ipx_wire::{IpxHeader, Node, Packet};
 use std::net::SocketAddrV4;
 
 impl IpxnetServer {
-    /// Whether a node is the router's, the broadcast node or a client's.
+    /// Whether a node is the router's, the broadcast node or a client's. No new client can have that.
     fn is_here(&self, node: Node) -> bool
         ensures { result ≡ is_node_here self.now.port self.now.clients node }
     {
@@ -34,19 +34,12 @@ impl IpxnetServer {
         node == Node([0; 6]) || self.is_here(node)
     }
 
-    /// Whether no new client can have a node.
-    fn is_taken(&self, node: Node) -> bool
-        ensures { result ≡ is_node_taken self.now node }
-    {
-        self.is_here(node) || self.joined.of_node(node).is_some()
-    }
-
     /// Why a registration is refused, from an address where no client is known.
     fn refuses(&self, from: SocketAddrV4, now: u64) -> Option<ServerDrop>
         ensures { result ≡ registration_drop self.now from now }
     {
         let node = node_of(self.port, from);
-        if self.is_taken(node) {
+        if self.is_here(node) {
             return Some(ServerDrop::NodeTaken(node));
         }
         if self.clients.is_address_full(from, now) {

@@ -10,8 +10,8 @@ pub enum ServerDrop {
     /// It is not a packet, for this cause.
     #[error("{0}")]
     Malformed(IpxFault),
-    /// Its sender would be a new client whose node is taken. It is the router's, another client's,
-    /// or, if servers are joined, that of a client at a joined router. The value is the node.
+    /// Its sender would be a new client whose node is taken: it is the router's or another client's.
+    /// The value is the node.
     #[error("the client's node is already in use: {0}")]
     NodeTaken(Node),
     /// Its sender would be a new client, and its IP address has as many clients as one may have,

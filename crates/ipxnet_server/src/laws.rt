@@ -1,4 +1,4 @@
-//! Laws on what joined servers learn, on who is noted, on who is pinged how often, on how often
+//! Laws on what joined servers learn, on who is a client, on who is noted, on who is pinged how often, on how often
 //! a client floods, on how many copies are sent, and on what an address without a client gets. They
 //! do nothing.
 
@@ -8,7 +8,7 @@ ghost use Rattle.ipxnet_server.specs.JoinedLearns.{NoGivenPacketShowsAClient};
 ghost use Rattle.ipxnet_server.specs.NotedPlaces.{RegistrationsKeepOtherNotes};
 ghost use Rattle.ipxnet_server.specs.Pings.{AsksAreLate, AsksAreTwo, OnlySilentArePinged, PingsAreSeldom};
 ghost use Rattle.ipxnet_server.specs.Restarts.{RestartAsksAreApart};
-ghost use Rattle.ipxnet_server.specs.ServerRuns.{ClientsShowedTheirNodes, WhoStaysNotedIsAsked};
+ghost use Rattle.ipxnet_server.specs.ServerRuns.{ClientsShowedTheirNodes, JoinedRoutersKeepNobodyOut, WhoStaysNotedIsAsked};
 ghost use Rattle.ipxnet_server.specs.Unshown.{WhoShowsNothingGetsLittle};
 
 /// A joined server takes no packet of the core of another router for one of that router's clients.
@@ -61,6 +61,12 @@ pub fn restart_asks_are_apart()
 /// from its address with that node as its source.
 pub fn clients_showed_their_nodes()
     ensures { ClientsShowedTheirNodes }
+{}
+
+/// Nobody is kept out by what came from joined routers: whatever a server knows of their clients, its
+/// own clients are the same after a call.
+pub fn joined_routers_keep_nobody_out()
+    ensures { JoinedRoutersKeepNobodyOut }
 {}
 
 /// From one time to another, at most 256 floods of a client are passed on, and 128 more for each

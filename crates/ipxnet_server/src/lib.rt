@@ -47,9 +47,9 @@ pub use disposition::Disposition;
 pub use drops::ServerDrop;
 pub use laws::{
     asks_are_late, asks_are_two, clients_flood_seldom, clients_showed_their_nodes,
-    copies_are_limited, no_given_packet_shows_a_client, only_silent_clients_are_pinged,
-    pings_are_seldom, registrations_keep_other_notes, restart_asks_are_apart,
-    who_shows_nothing_gets_little, who_stays_noted_is_asked,
+    copies_are_limited, joined_routers_keep_nobody_out, no_given_packet_shows_a_client,
+    only_silent_clients_are_pinged, pings_are_seldom, registrations_keep_other_notes,
+    restart_asks_are_apart, who_shows_nothing_gets_little, who_stays_noted_is_asked,
 };
 pub use limiting::LimitedFlood;
 pub use noted::{MAX_ADDRESS_NOTED, MAX_NOTED, Noted};

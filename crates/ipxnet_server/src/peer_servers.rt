@@ -2,7 +2,7 @@
 
 ghost use Rattle.std.specs.Prelude.{◌≡◌, ◌≤◌, ◌<◌, ◌+◌, ◌-◌, [], IfOk, None, drop, filter, find, length, not, option_copied, true};
 ghost use Rattle.std.specs.Vec.{vec_capacity, vec_len};
-ghost use Rattle.ipxnet_server.specs.PeerServers.{remote_client_of, remote_clients_heard, remote_clients_left, has_remote_node, is_joined_place, max_remote_clients};
+ghost use Rattle.ipxnet_server.specs.PeerServers.{remote_client_of, remote_clients_but, remote_clients_heard, remote_clients_left, has_remote_node, is_joined_place, max_remote_clients};
 
 use ipx_wire::Node;
 use std::alloc::{AllocError, Global};
@@ -54,7 +54,7 @@ fn is_one(routers: &[SocketAddrV4], place: SocketAddrV4) -> bool
 
 /// Removes the client of a node.
 fn leave_out(far: &mut Vec<RemoteClient>, node: Node)
-    ensures items { far.new.items ≡ filter (λ f. not (has_remote_node node f)) far.old.items }
+    ensures items { far.new.items ≡ remote_clients_but node far.old.items }
     ensures fewer { vec_len far.new ≤ vec_len far.old }
     ensures capacity { vec_capacity far.new ≡ vec_capacity far.old }
 {
@@ -136,6 +136,13 @@ impl Joined {
         leave_out_silent(&mut self.far, now);
     }
 
+    /// The client of a node is at none of the routers.
+    pub fn forget(&mut self, node: Node)
+        ensures { self.new ≡ record self.old { far = remote_clients_but node self.old.far } }
+    {
+        leave_out(&mut self.far, node);
+    }
+
     /// The client of a node is heard through the router at an address. If there are too many, the
     /// one heard before all others is removed.
     pub fn put(&mut self, node: Node, router: SocketAddrV4, now: u64)
@@ -144,7 +151,7 @@ impl Joined {
           far = remote_clients_heard node router now self.old.far;
         } }
     {
-        leave_out(&mut self.far, node);
+        self.forget(node);
         make_space(&mut self.far);
         let last = self.far.len();
         let client = RemoteClient {

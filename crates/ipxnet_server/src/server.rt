@@ -1,6 +1,6 @@
 //! The ipxnet server of a port.
 
-ghost use Rattle.std.specs.Prelude.{◌≡◌, ◌≤◌, ◌&&◌, ℕ, All, List, [], IfOk, None, Ok, Option, Some, false, is_some, length, nat_le, true};
+ghost use Rattle.std.specs.Prelude.{◌≡◌, ◌≤◌, ◌&&◌, ◌⊎◌, ℕ, All, List, [], IfOk, None, Ok, Option, Some, false, is_some, length, nat_le, true};
 ghost use Rattle.ipx_wire.specs.declared.ipx.fault.IpxFault.{IpxFault};
 ghost use Rattle.ipx_wire.specs.Ipx.{BeginsWith, IsIpx, PacketView, ipx_fault, packet_of};
 ghost use Rattle.ipx_wire.specs.declared.ipx.packet.IpxHeader.{IpxHeader};
@@ -11,7 +11,7 @@ ghost use Rattle.ipx_wire.specs.declared.address.Node.{Node};
 ghost use Rattle.ipxnet_server.specs.declared.recipients.Recipients.{Recipients};
 ghost use Rattle.ipxnet_server.specs.declared.recipients.Recipients.TheVariants.{One};
 ghost use Rattle.ipxnet_server.specs.ServerClients.{AreFewOfEachIp, EachClientOnce, HasPlaceNode, client_at, client_heard, client_of_node, clients_left, max_server_clients, node_of_place, replaced_after, was_heard_within};
-ghost use Rattle.ipxnet_server.specs.ServerHears.{IsAnswer, answer_of, goes_to_core, is_joined_taker, is_of_client, is_registration, is_taker};
+ghost use Rattle.ipxnet_server.specs.ServerHears.{BecameClient, IsAnswer, answer_of, goes_to_core, is_joined_taker, is_of_client, is_registration, is_taker};
 ghost use Rattle.ipxnet_server.specs.ServerHears.{joined_server, server_admitting, server_aged, server_dropping, server_hearing, server_knowing, server_learned, server_met, server_noting};
 ghost use Rattle.ipxnet_server.specs.ServerHears.{server_hears, may_reach_core, new_server, takers_join, takers_of, takers_reach};
 ghost use Rattle.ipxnet_server.specs.ServerFloods.{packet_hears, server_heard};
@@ -224,7 +224,7 @@ impl IpxnetServer {
         }
     }
 
-    /// Who sent from an address becomes a client.
+    /// Who sent from an address becomes a client. Its node is at no joined router then.
     fn admit(&mut self, from: SocketAddrV4, now: u64)
         requires no_client { client_at from self.old.clients ≡ None }
         requires free { client_of_node (node_of_place self.old.port from) self.old.clients
@@ -232,8 +232,10 @@ impl IpxnetServer {
         ensures admits { self.new ≡ server_admitting from now self.old }
         ensures few { length self.new.clients ≤ self.new.max_clients }
     {
+        let node = node_of(self.port, from);
         self.noted.forget(from);
-        self.clients.put(node_of(self.port, from), from, now);
+        self.joined.forget(node);
+        self.clients.put(node, from, now);
     }
 
     /// The client at an address was heard.
@@ -372,9 +374,11 @@ impl IpxnetServer {
         ensures unanswered { is_joined_place from self.old.routers ≡ true → answer_of result ≡ None }
         ensures members { is_joined_place from self.old.routers ≡ true
             → self.new.clients ≡ clients_left now self.old.clients }
-        // Nothing that a client sent shows where a remote client is.
+        // Nothing that comes from elsewhere than a joined router shows where a remote client is. It
+        // only removes the node of its sender, if that became a client.
         ensures told { is_joined_place from self.old.routers ≡ false
-            → self.new.far ≡ (server_aged now self.old).far }
+            → (self.new.far ≡ (server_aged now self.old).far)
+            ⊎ BecameClient from (server_aged now self.old) self.new }
     {
         self.age(now);
         self.recognise(from, bytes, now);

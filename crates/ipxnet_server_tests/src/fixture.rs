@@ -43,6 +43,13 @@ pub const REGISTRATION: [u8; 30] = [
     2,
 ];
 
+/// The answer to the first player. It takes its network and node from there, and the answer comes
+/// from the router's.
+pub const ANSWER: [u8; 30] = [
+    0xff, 0xff, 0, 0x1e, 0, 0, 0, 0, 0xd0, 0x5b, 2, 0x7c, 0x63, 0xc8, 0xd4, 0xdf, 0, 2, 0, 0, 0xd0,
+    0x5b, 2, 0, 0, 0, 0xd0, 0x5b, 0, 2,
+];
+
 /// A packet of 34 bytes from the first player to socket 4001 of the second, as its driver sends it.
 /// Both networks are the one that it was told.
 pub const CAME: [u8; 34] = [

@@ -2,8 +2,8 @@
 
 use crate::caller::reached;
 use crate::fixture::{
-    CAME, FIRST_NODE, PORT, REGISTRATION, THIRD_NODE, enter, first_place, long_packet, packet,
-    packet_for, register_all, second_place, third_place,
+    ANSWER, CAME, FIRST_NODE, PORT, REGISTRATION, SECOND_NODE, THIRD_NODE, enter, first_place,
+    long_packet, packet, packet_for, register_all, second_place, third_place,
 };
 use crate::sites::{north, north_place, sites, south, south_place, west_place};
 use ipx_wire::{Network, Node};
@@ -102,8 +102,48 @@ fn to_one_at_a_site(rt: HostRuntime) -> Result<(), Fail> {
     Ok(())
 }
 
+/// Whoever forges a site's address keeps nobody out: an address whose own node is known at a site is
+/// given it, and is a client by its first packet. That node is then known at no site, what is for it
+/// goes to the client alone, and no site can claim it.
+#[test]
+fn a_claimed_node(rt: HostRuntime) -> Result<(), Fail> {
+    let mut here = north(rt.alloc())?;
+    enter(&mut here, second_place(), 0);
+    let claim = packet(Node::BROADCAST, 0x4001, FIRST_NODE);
+    here.hear(south_place(), &claim, 0);
+    here.hear(south_place(), &packet(Node::BROADCAST, 0x4001, NOBODY), 0);
+    assert_eq!(rt; here.remote_clients().len(), 2);
+    let heard = here.hear(first_place(), &REGISTRATION, 1);
+    assert_eq!(rt; heard.answer(), Some(ANSWER));
+    // A registration shows nothing: the node is still known at the site.
+    assert_eq!(rt; here.remote_clients().len(), 2);
+    let to_first = packet(FIRST_NODE, 0x4001, SECOND_NODE);
+    assert_eq!(rt;
+        here.hear(second_place(), &to_first, 2),
+        Disposition::ToJoined(Recipients::JoinedAt(south_place()))
+    );
+    assert_eq!(rt;
+        here.hear(first_place(), &claim, 3),
+        Disposition::ToOthers(first_place())
+    );
+    assert_eq!(rt; here.clients()[1].place, first_place());
+    assert_eq!(rt; here.remote_clients().len(), 1);
+    assert_eq!(rt; here.remote_clients()[0].node, NOBODY);
+    assert_eq!(rt;
+        here.hear(second_place(), &to_first, 4),
+        Disposition::ToClient(first_place())
+    );
+    assert_eq!(rt;
+        here.hear(south_place(), &claim, 5),
+        Disposition::Dropped(ServerDrop::NotBehind(FIRST_NODE))
+    );
+    assert_eq!(rt; here.counts().node_taken, 0);
+    Ok(())
+}
+
 /// A registration tells no site anything. At each the same address has the node that the secret
-/// there makes. One that is known at another site is given to nobody.
+/// there makes. With one secret at two sites that is one node, and who is a client at both has it at
+/// each.
 #[test]
 fn one_place_at_two_sites(rt: HostRuntime) -> Result<(), Fail> {
     let mut here = north(rt.alloc())?;
@@ -113,14 +153,14 @@ fn one_place_at_two_sites(rt: HostRuntime) -> Result<(), Fail> {
     let all = packet(Node::BROADCAST, 0x4001, FIRST_NODE);
     here.hear(first_place(), &all, 0);
     there.hear(north_place(), &all, 0);
-    // The two have one secret, by which the node would be the same.
+    // The two have one secret, by which the node is the same.
+    assert_eq!(rt; there.remote_clients().len(), 1);
+    enter(&mut there, first_place(), 5);
+    assert_eq!(rt; there.clients()[0].node, FIRST_NODE);
+    assert!(rt; there.remote_clients().is_empty());
     assert_eq!(rt;
-        there.hear(first_place(), &REGISTRATION, 5),
-        Disposition::Dropped(ServerDrop::NodeTaken(FIRST_NODE))
-    );
-    assert_eq!(rt;
-        there.hear(first_place(), &all, 5),
-        Disposition::Dropped(ServerDrop::NodeTaken(FIRST_NODE))
+        there.hear(north_place(), &all, 5),
+        Disposition::Dropped(ServerDrop::NotBehind(FIRST_NODE))
     );
     let port = ServerPort {
         secret: Secret([9; 32]),

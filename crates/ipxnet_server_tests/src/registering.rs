@@ -1,8 +1,8 @@
 //! Registrations and their answers, byte by byte, and who becomes a client.
 
 use crate::fixture::{
-    CAME, FIRST_NODE, PORT, REGISTRATION, SECOND_NODE, SECRET, THIRD_NODE, enter, first_place,
-    packet, second_place, third_place,
+    ANSWER, CAME, FIRST_NODE, PORT, REGISTRATION, SECOND_NODE, SECRET, THIRD_NODE, enter,
+    first_place, packet, second_place, third_place,
 };
 use ipx_wire::{IpxFault, Network, Node};
 use ipxnet_server::{
@@ -10,13 +10,6 @@ use ipxnet_server::{
 };
 use std::net::{Ipv4Addr, SocketAddrV4};
 use std::test::Fail;
-
-/// The answer to the first player. It takes its network and node from there, and the answer comes
-/// from the router's.
-const ANSWER: [u8; 30] = [
-    0xff, 0xff, 0, 0x1e, 0, 0, 0, 0, 0xd0, 0x5b, 2, 0x7c, 0x63, 0xc8, 0xd4, 0xdf, 0, 2, 0, 0, 0xd0,
-    0x5b, 2, 0, 0, 0, 0xd0, 0x5b, 0, 2,
-];
 
 /// The answer to the third player.
 const THIRD_ANSWER: [u8; 30] = [

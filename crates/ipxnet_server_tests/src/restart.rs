@@ -119,8 +119,7 @@ fn in_a_full_server(rt: HostRuntime) -> Result<(), Fail> {
     Ok(())
 }
 
-/// At a joined server the node is the same, and one that is known at another site is given to
-/// nobody.
+/// At a joined server the node is the same, also if another site claimed it meanwhile.
 #[test]
 fn at_a_joined_server(rt: HostRuntime) -> Result<(), Fail> {
     let mut here = north(rt.alloc())?;
@@ -135,9 +134,10 @@ fn at_a_joined_server(rt: HostRuntime) -> Result<(), Fail> {
     );
     assert_eq!(rt;
         here.hear(first_place(), &to_all(first_place()), 1),
-        Disposition::Dropped(ServerDrop::NodeTaken(FIRST_NODE))
+        Disposition::ToOthers(first_place())
     );
-    assert_eq!(rt; here.clients().len(), 1);
+    assert_eq!(rt; here.clients().len(), 2);
+    assert!(rt; here.remote_clients().is_empty());
     Ok(())
 }
 

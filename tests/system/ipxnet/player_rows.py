@@ -22,7 +22,7 @@ END = ("127.0.6.7", 24607)
 SERVERS = {**dict.fromkeys("abcuvn", 0), "d": 1, **dict.fromkeys("efgisjk", 2)}
 MAY, JOINED = ["abcuv", "d", "efgi"], "jk"
 # What the lobbies drop: the word of the rows, the router, its port, how many clients are there in the end, and its strangers.
-COUNTED = [("drop", 0, 2, 4, 1), ("drop2", 1, 2, 1, 0), ("drop3", 0, 3, 3, 1)]
+COUNTED = [("drop", 0, 2, 4, 1), ("drop2", 1, 2, 1, 0), ("drop3", 0, 3, 4, 1)]
 # So long after what is wanted came, more of it would be seen; and whatever comes later fails the rows behind it.
 QUIET = 0.06
 

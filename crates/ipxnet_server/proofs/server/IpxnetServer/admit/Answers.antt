@@ -12,4 +12,4 @@ invariant_of-self c =
     let most = c.self.inside.clients.max_clients in
     let known = c.self.inside.clients.known in
     subst (λ (v : ClientsView). All (HasPlaceNode port) v.known) (sym c.put.ensures.put)
-    (subst (λ (n : Node). All (HasPlaceNode port) (clients_with most n c.args.from c.args.now known)) (sym c.node_of.ensures) (nodes_with port most c.args.now c.args.from known c.self.invariant))
+    (subst (λ (n : Node). All (HasPlaceNode port) (clients_with most n c.args.from c.args.now known)) (sym c.node_of-node.ensures) (nodes_with port most c.args.now c.args.from known c.self.invariant))

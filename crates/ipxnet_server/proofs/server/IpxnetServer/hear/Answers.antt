@@ -1,4 +1,4 @@
-use Rattle.std.proofs.Common.{◌≡◌, Bool, List, true, Some, length, ap, refl, subst, sym, ◌∙◌}
+use Rattle.std.proofs.Common.{◌≡◌, ◌⊎◌, Bool, List, true, Some, length, ap, refl, subst, sym, ◌∙◌}
 use Rattle.std.specs.Prelude.{if◌then◌else◌, is_some}
 use Rattle.ipxnet_server.specs.declared.clients.Client.{Client}
 use Rattle.ipxnet_server.specs.declared.disposition.Disposition.{Disposition}
@@ -6,13 +6,13 @@ use Rattle.ipx_wire.specs.Ipx.{BeginsWith, PacketView}
 use Rattle.ipxnet_server.specs.ServerClients.{client_at, client_heard, node_of_place}
 use Rattle.ipxnet_server.specs.declared.drops.ServerDrop.TheVariants.{Malformed}
 use Rattle.ipxnet_server.specs.ServerFloods.{limited_hears, server_limiting, server_unlimited, unlimited_hears}
-use Rattle.ipxnet_server.specs.ServerHears.{ServerView, goes_to_core, is_of_client, may_reach_core, server_admitting, server_aged, server_dropping, server_hearing, server_hears, server_met}
+use Rattle.ipxnet_server.specs.ServerHears.{BecameClient, ServerView, goes_to_core, is_of_client, may_reach_core, server_admitting, server_aged, server_dropping, server_hearing, server_hears, server_met}
 use Rattle.ipxnet_server.specs.ServerInside.{IsSoundHearing, StaysAmongClients}
 use Rattle.ipxnet_server.specs.PeerServers.{is_joined_place}
 use Rattle.ipxnet_server.proofs.Hears.{core_law, registers_nobody, registers_no_client, told_joined}
 use Rattle.ipxnet_server.proofs.Limits.{client_limited, core_limited, dropped_leaves, dropped_stays, limiting_keeps, sound_limited}
 use Rattle.ipxnet_server.proofs.Remains.{met_remains, recent_left}
-use Rattle.ipxnet_server.proofs.Still.{client_kept, hearing_clients, hearing_far, hearing_rest, met_heard, met_joined, met_rest, others_clients}
+use Rattle.ipxnet_server.proofs.Still.{client_kept, far_later, hearing_clients, hearing_far, hearing_rest, met_far, met_heard, met_joined, met_rest, others_clients}
 use Rattle.ipxnet_server.proofs.server.IpxnetServer.hear.Goals as goal
 
 pub keep-requires : goal.keep-requires
@@ -20,8 +20,8 @@ keep-requires c = record {
   joined = λ told takers e. told_joined (is_joined_place c.args.from c.recognise.new.self.routers) c.decide-heard.result told takers c.decide-heard.ensures.sound.member e;
 }
 
--- only its clients, and who is noted, changed before the packet was judged
-rest : (c : goal.After-limit) → record c.recognise.new.self { clients = c.age.new.self.clients; noted = c.age.new.self.noted } ≡ server_aged c.args.now c.args.self.now
+-- only its clients, those of joined routers, and who is noted, changed before the packet was judged
+rest : (c : goal.After-limit) → record c.recognise.new.self { clients = c.age.new.self.clients; far = c.age.new.self.far; noted = c.age.new.self.noted } ≡ server_aged c.args.now c.args.self.now
 rest c = met_rest c.args.from c.args.now c.age.new.self c.recognise.new.self c.recognise.ensures.known ∙ c.age.ensures.aged
 
 -- the server has the routers that it had
@@ -196,5 +196,14 @@ returns-clause-members c =
 
 pub returns-clause-told : goal.returns-clause-told
 returns-clause-told c =
+    let from = c.args.from in
+    let heard = c.decide-heard.result in
+    let l = c.age.new.self in
+    let m = c.recognise.new.self in
+    let after = c.limit.new.self in
     λ apart.
-    far c ∙ ap (λ (v : ServerView). v.far) c.keep.ensures ∙ hearing_far c.decide-heard.result c.args.from c.args.now c.recognise.new.self (c.decide-heard.ensures.sound.member (routers c ∙ apart)) ∙ ap (λ (v : ServerView). v.far) (rest c)
+    let same : after.far ≡ m.far = far c ∙ ap (λ (v : ServerView). v.far) c.keep.ensures ∙ hearing_far heard from c.args.now m (c.decide-heard.ensures.sound.member (routers c ∙ apart)) in
+    subst (λ (v : ServerView). (after.far ≡ v.far) ⊎ BecameClient from v after) c.age.ensures.aged
+    (far_later from l m after same
+    (λ is. ap (λ (known : List Client). is_some (client_at from known)) (clients c) ∙ ap (λ (v : ServerView). is_some (client_at from v.clients)) c.keep.ensures ∙ client_kept heard from from c.args.now m is)
+    (met_far from c.args.now l m c.recognise.ensures.known))
