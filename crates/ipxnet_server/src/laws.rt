@@ -1,6 +1,6 @@
-//! Laws on what joined servers learn, on who is a client, on who is noted, on who is pinged how often, on how often
-//! a client floods, on how many copies are sent, and on what an address without a client gets. They
-//! do nothing.
+//! Laws on what joined servers learn, on who is a client, on who is noted, on who is pinged how
+//! often, on how often a client floods, on how many copies are sent, and on what an address without a
+//! client gets. They do nothing.
 
 ghost use Rattle.ipxnet_server.specs.CopyRuns.{CopiesAreLimited};
 ghost use Rattle.ipxnet_server.specs.FloodRuns.{ClientsFloodSeldom};
