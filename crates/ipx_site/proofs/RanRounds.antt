@@ -14,6 +14,7 @@ use Rattle.ipx_config.specs.Loading.{IsFileText}
 use Rattle.ipx_sockets.specs.PollEvents.{Waited, Watched}
 use Rattle.ipx_rate_limits.specs.PortLimits.{limits_of}
 use Rattle.ipx_site.specs.PortsView.{ways_in}
+use Rattle.ipx_site.specs.RouterMetrics.{CountsRound}
 use Rattle.ipx_site.specs.RouterRounds.{IsRound, SleepsAfter}
 use Rattle.ipx_site.specs.RoutingRuns.{KnowsNothing, Rounds, RoutesWell, RunsTo, StartsBy, StartsByFile, TakesRound}
 use Rattle.ipx_config.specs.Site.{IsSiteText}
@@ -40,11 +41,11 @@ pub took_round : {R T E : Type 0} (old new : RunningRouter R) (r : Result T E)
     × AfterMarks (λ ended. IsRound old.clock between StopsThere NeverGoesBack old.ports ended old.asked new.asked old.core new.core new.ports.ethernet.moment batch
     × SleepsAfter (IsDue (deadlines new.asked new.looked new.responses new.written new.core new.warnings new.client_log (happened new.totals new.core new.ports) new.ports.servers.servers.items)) (is_any_marked (marks_in ended)) between new.clock StopsThere time batch.fault batch.quiet
     × OnOk r (AreMarked (numbers_come new.ready) (marks_in ended) (marks_in new.ports))) new.ports
-    × (new.ready.trace.items ≡ old.ready.trace.items ++ Waited time ∷ [])
+    × (new.ready.trace.items ≡ old.ready.trace.items ++ Waited time ∷ []) × CountsRound batch old.totals new.totals
     → is_err r ≡ new.ready.failed → new.ports.servers.moment ≡ new.ports.ethernet.moment → ways_in new.ports ≡ ways_in old.ports
     → peers_of new.ports.datagrams.peers.items ≡ peers_of old.ports.datagrams.peers.items → new.ports.port_indices.items ≡ old.ports.port_indices.items
     → map access_by new.ports.datagrams.device.access_lists.items ≡ map access_by old.ports.datagrams.device.access_lists.items → TakesRound old new
-took_round old new r (between, batch, time, (ended, (round, sleeps, marked), differ), waits) failed moments transmissions peers port_indices access = record {
+took_round old new r (between, batch, time, (ended, (round, sleeps, marked), differ), waits, totals) failed moments transmissions peers port_indices access = record {
   between = between;
   batch = batch;
   time = time;
@@ -54,6 +55,7 @@ took_round old new r (between, batch, time, (ended, (round, sleeps, marked), dif
     differ,
   );
   waits = waits;
+  totals = totals;
   moments = moments;
   transmissions = transmissions;
   peers = peers;

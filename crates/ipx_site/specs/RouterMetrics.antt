@@ -1,5 +1,5 @@
 -- What a router counts itself, and what its metrics contain. Defined by this project.
-use Rattle.std.specs.Prelude.{◌≡◌, ℕ, ◌+◌, ◌/◌, Option, Some, None, length}
+use Rattle.std.specs.Prelude.{◌≡◌, ◌≤◌, ℕ, ◌+◌, ◌/◌, Option, Some, None, length}
 use Rattle.ipx_carrier.specs.Counting.{counted, raised}
 use Rattle.ipx_carrier.specs.OutcomeCounters.{outcomes_in}
 use Rattle.ipx_carrier.specs.declared.fault.RunFault.{RunFault}
@@ -35,6 +35,15 @@ with_fault (Some OutOfMemory) t = with_memory_fault t
 -- a batch is counted: the packets whose node has no IP address, and the fault that ended it
 abbrev pub with_batch : Batch → RouterCounts → RouterCounts
 with_batch b t = with_fault b.fault (record t { unmapped = counted (t.unmapped + b.unmapped) })
+
+-- the work beside a batch counts only refusals of memory and faults of files
+abbrev pub AddsFaultsOfWork : RouterCounts → RouterCounts → Type 0
+AddsFaultsOfWork old new = (new.unmapped ≡ old.unmapped) × (new.device_faults ≡ old.device_faults)
+    × (old.memory_faults ≤ new.memory_faults) × (old.file_faults ≤ new.file_faults)
+
+-- a round counts what its work adds, and then its batch
+abbrev pub CountsRound : Batch → RouterCounts → RouterCounts → Type 0
+CountsRound b old new = (worked : RouterCounts) × AddsFaultsOfWork old worked × (new ≡ with_batch b worked)
 
 -- the metrics of a router at a time, in milliseconds since its start, without the counts that are logged.
 -- They come from its own counters, those of its core and those of its device: what it dropped, and how many

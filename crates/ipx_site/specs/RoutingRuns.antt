@@ -16,6 +16,7 @@ use Rattle.ipx_config.specs.Loading.{IsFileText}
 use Rattle.ipx_sockets.specs.PollEvents.{Waited, Watched}
 use Rattle.ipx_rate_limits.specs.PortLimits.{limits_of}
 use Rattle.ipx_site.specs.PortsView.{ways_in}
+use Rattle.ipx_site.specs.RouterMetrics.{CountsRound}
 use Rattle.ipx_site.specs.RouterRounds.{IsRound, SleepsAfter}
 use Rattle.ipx_config.specs.Site.{IsSiteText}
 use Rattle.ipx_site.specs.RouterMarks.{AreIndicesDistinct}
@@ -56,7 +57,8 @@ pub record StartsBy {R : Type 0} (site : RouterConfig) (first : RunningRouter R)
 
 -- one round, which begins with the pings that are due, followed by one wait, as long as there is nothing to do.
 -- If the wait does not fail, the ports at which something came are marked, and no others. Marks of before stay,
--- and nothing else changes at the ports after the turns. The ways of packets, the port indices and the accepted senders are unchanged
+-- and nothing else changes at the ports after the turns. The ways of packets, the port indices and the accepted senders are unchanged.
+-- The totals count the batch of the round
 pub record TakesRound {R : Type 0} (old new : RunningRouter R) : Type 0 where
   pub between : SteadyClock R
   pub batch : Batch
@@ -70,6 +72,7 @@ pub record TakesRound {R : Type 0} (old new : RunningRouter R) : Type 0 where
       × (new.ready.failed ≡ false → AreMarked (numbers_come new.ready) (marks_in ended) (marks_in new.ports)))
       new.ports
   pub waits : new.ready.trace.items ≡ old.ready.trace.items ++ Waited time ∷ []
+  pub totals : CountsRound batch old.totals new.totals
   pub moments : new.ports.servers.moment ≡ new.ports.ethernet.moment
   pub transmissions : ways_in new.ports ≡ ways_in old.ports
   pub peers : peers_of new.ports.datagrams.peers.items ≡ peers_of old.ports.datagrams.peers.items

@@ -1,6 +1,6 @@
 //! The counters of a running router.
 
-ghost use Rattle.std.specs.Prelude.{◌≡◌, Some};
+ghost use Rattle.std.specs.Prelude.{◌≡◌, ◌≤◌, Some};
 ghost use Rattle.ipx_carrier.specs.Counting.{counted, raised};
 ghost use Rattle.ipx_carrier.specs.OutcomeCounters.{outcomes_in};
 ghost use Rattle.ipx_site.specs.IdleTime.{happened, happened_in, lost_in};
@@ -92,16 +92,18 @@ impl RouterCounts {
     }
 
     pub fn count_out_of_memory(&mut self)
-        ensures { self.new ≡ with_memory_fault self.old }
+        ensures counted { self.new ≡ with_memory_fault self.old }
+        ensures grows { self.old.memory_faults ≤ self.new.memory_faults }
     {
         saturating_increment(&mut self.memory_faults);
     }
 
     pub fn fail_file(&mut self, fault: FileFault)
-        ensures { self.new ≡ record self.old {
+        ensures counted { self.new ≡ record self.old {
           file_faults = raised self.old.file_faults;
           last_file_fault = Some fault;
         } }
+        ensures grows { self.old.file_faults ≤ self.new.file_faults }
     {
         saturating_increment(&mut self.file_faults);
         self.last_file_fault = Some(fault);

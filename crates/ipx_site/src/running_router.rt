@@ -12,7 +12,7 @@ ghost use Rattle.ipx_site.specs.MetricsFile.{IsMetricsFile};
 ghost use Rattle.ipx_sockets.specs.PollEvents.{Waited};
 ghost use Rattle.ipx_sockets.specs.AccessLists.{access_by};
 ghost use Rattle.ipx_site.specs.PortsView.{ways_in};
-ghost use Rattle.ipx_site.specs.RouterMetrics.{AreMetrics};
+ghost use Rattle.ipx_site.specs.RouterMetrics.{AddsFaultsOfWork, AreMetrics, CountsRound};
 ghost use Rattle.ipx_site.specs.RouterRounds.{AsksAgain, IsRound, SleepsAfter};
 ghost use Rattle.ipx_site.specs.SiteMarks.{AfterMarks, marks_in, numbers_come};
 ghost use Rattle.ipx_sockets.specs.Steady.{NeverGoesBack, StopsThere};
@@ -191,6 +191,7 @@ impl<'a, R: SystemClock> RunningRouter<'a, R> {
         ensures ports { self.new.ports ≡ self.old.ports }
         ensures clock { self.new.clock ≡ self.old.clock }
         ensures ready { self.new.ready ≡ self.old.ready }
+        ensures totals { self.new.totals ≡ self.old.totals }
         ensures warnings { self.new.warnings ≡ self.old.warnings }
         ensures drops { self.new.drops ≡ self.old.drops }
     {
@@ -208,6 +209,7 @@ impl<'a, R: SystemClock> RunningRouter<'a, R> {
         ensures ports { self.new.ports ≡ self.old.ports }
         ensures clock { self.new.clock ≡ self.old.clock }
         ensures ready { self.new.ready ≡ self.old.ready }
+        ensures totals { AddsFaultsOfWork self.old.totals self.new.totals }
         ensures warnings { self.new.warnings ≡ self.old.warnings }
         ensures drops { self.new.drops ≡ self.old.drops }
         ensures asked { self.new.asked ≡ self.old.asked }
@@ -242,6 +244,7 @@ impl<'a, R: SystemClock> RunningRouter<'a, R> {
         ensures ports { self.new.ports ≡ self.old.ports }
         ensures clock { self.new.clock ≡ self.old.clock }
         ensures ready { self.new.ready ≡ self.old.ready }
+        ensures totals { AddsFaultsOfWork self.old.totals self.new.totals }
         ensures warnings { self.new.warnings ≡ self.old.warnings }
         ensures drops { self.new.drops ≡ self.old.drops }
         ensures asked { self.new.asked ≡ self.old.asked }
@@ -265,6 +268,7 @@ impl<'a, R: SystemClock> RunningRouter<'a, R> {
         ensures ports { self.new.ports ≡ self.old.ports }
         ensures clock { self.new.clock ≡ self.old.clock }
         ensures ready { self.new.ready ≡ self.old.ready }
+        ensures totals { AddsFaultsOfWork self.old.totals self.new.totals }
         ensures warnings { self.new.warnings ≡ self.old.warnings }
         ensures drops { self.new.drops ≡ self.old.drops }
         ensures asked { self.new.asked ≡ self.old.asked }
@@ -293,6 +297,7 @@ impl<'a, R: SystemClock> RunningRouter<'a, R> {
         ensures ports { self.new.ports ≡ self.old.ports }
         ensures clock { self.new.clock ≡ self.old.clock }
         ensures ready { self.new.ready ≡ self.old.ready }
+        ensures totals { AddsFaultsOfWork self.old.totals self.new.totals }
         ensures warnings { self.new.warnings ≡ self.old.warnings }
         ensures drops { self.new.drops ≡ self.old.drops }
         ensures asked { self.new.asked ≡ self.old.asked }
@@ -313,6 +318,7 @@ impl<'a, R: SystemClock> RunningRouter<'a, R> {
         ensures ports { self.new.ports ≡ self.old.ports }
         ensures clock { self.new.clock ≡ self.old.clock }
         ensures ready { self.new.ready ≡ self.old.ready }
+        ensures totals { AddsFaultsOfWork self.old.totals self.new.totals }
         // Each warning that is due is logged, and no other.
         ensures told { AreLoggedIfDue (counts_to_log (happened self.new.totals self.new.core
             self.new.ports)) now
@@ -387,6 +393,9 @@ impl<'a, R: SystemClock> RunningRouter<'a, R> {
             StopsThere NeverGoesBack self.old.ports self.new.ports
             self.old.asked self.new.asked self.old.core self.new.core
             self.new.ports.ethernet.moment result }
+        // Its totals are what the work added, and then what the batch did not send, and the fault
+        // that ended it.
+        ensures totals { CountsRound result self.old.totals self.new.totals }
         ensures ready { self.new.ready ≡ self.old.ready }
         // Ipxnet servers send and receive at the same time as Ethernet ports.
         ensures moments { self.new.ports.servers.moment ≡ self.new.ports.ethernet.moment }
@@ -466,7 +475,8 @@ impl<'a, R: SystemClock> RunningRouter<'a, R> {
             between self.new.clock StopsThere time batch.fault batch.quiet
             × OnOk result (AreMarked (numbers_come self.new.ready) (marks_in ended)
             (marks_in self.new.ports))) self.new.ports
-            × (self.new.ready.trace.items ≡ self.old.ready.trace.items ++ Waited time ∷ []) }
+            × (self.new.ready.trace.items ≡ self.old.ready.trace.items ++ Waited time ∷ [])
+            × CountsRound batch self.old.totals self.new.totals }
         // It fails exactly if the wait did.
         ensures fault { is_err result ≡ self.new.ready.failed }
         ensures moments { self.new.ports.servers.moment ≡ self.new.ports.ethernet.moment }

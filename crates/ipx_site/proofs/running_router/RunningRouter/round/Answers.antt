@@ -37,3 +37,6 @@ returns-clause-core g c =
     c.stop-now.ensures c.keep.ensures.clock (ap (λ k. k.2) c.run_batch-batch.ensures.kept ∙ ap (λ w. w.moment) e.ethernet ∙ ap (λ w. w.moment) later.ethernet) c.keep.ensures.core begins
     (ways_pinged told begun e.datagrams e.ethernet e.port_indices ∙ ways_stay kept.ports told now later.datagrams later.ethernet later.servers later.port_indices ∙ ap ways_in c.keep.ensures.ports)
     (c.run_batch-batch.ensures.turns (ap (λ s. length s.items) e.port_indices ∙ ap (λ s. length s.items) later.port_indices ∙ kept.port_indices, omega arith))
+
+pub returns-clause-totals : goal.returns-clause-totals
+returns-clause-totals g c = (c.keep.new.self.totals, c.keep.ensures.totals, c.add.ensures)

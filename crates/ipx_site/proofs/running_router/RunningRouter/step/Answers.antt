@@ -2,6 +2,7 @@ use Rattle.std.proofs.Common.{◌≡◌, ◌∙◌, ◌++◌, ◌∷◌, [], ap,
 use Rattle.ipx_carrier.specs.ReadySet.{is_any_marked}
 use Rattle.ipx_site.specs.IdleTime.{IsDue, deadlines, happened}
 use Rattle.ipx_sockets.specs.PollEvents.{Waited}
+use Rattle.ipx_site.specs.RouterMetrics.{CountsRound}
 use Rattle.ipx_site.specs.RouterRounds.{IsRound, SleepsAfter}
 use Rattle.ipx_site.specs.SiteMarks.{marks_in}
 use Rattle.ipx_sockets.specs.Steady.{NeverGoesBack, StopsThere}
@@ -40,6 +41,7 @@ returns-in_err-wait-clause-core g c =
         same_marks t.ports,
       ),
       waits_once,
+      subst (λ it. CountsRound b old.totals it) (sym e.totals) c.round-batch.ensures.totals,
     )
 
 pub returns-clause-core : goal.returns-clause-core
@@ -78,4 +80,5 @@ returns-clause-core g c =
         m,
       ),
       waits_once,
+      subst (λ it. CountsRound b old.totals it) (sym e.totals) c.round-batch.ensures.totals,
     )
