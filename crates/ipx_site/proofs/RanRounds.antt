@@ -13,10 +13,11 @@ use Rattle.ipx_site.specs.KindPorts.{checked_ports, ArePortsBound}
 use Rattle.ipx_config.specs.Loading.{IsFileText}
 use Rattle.ipx_sockets.specs.PollEvents.{Waited, Watched}
 use Rattle.ipx_rate_limits.specs.PortLimits.{limits_of}
+use Rattle.ipx_site.specs.NewRouters.{HasFilteredNothing, IsUncounted}
 use Rattle.ipx_site.specs.PortsView.{ways_in}
 use Rattle.ipx_site.specs.RouterMetrics.{CountsRound}
 use Rattle.ipx_site.specs.RouterRounds.{IsRound, SleepsAfter}
-use Rattle.ipx_site.specs.RoutingRuns.{KnowsNothing, Rounds, RoutesWell, RunsTo, StartsBy, StartsByFile, TakesRound}
+use Rattle.ipx_site.specs.RoutingRuns.{HasDoneNothing, KnowsNothing, Rounds, RoutesWell, RunsTo, StartsBy, StartsByFile, TakesRound}
 use Rattle.ipx_config.specs.Site.{IsSiteText}
 use Rattle.ipx_site.specs.RouterMarks.{AreIndicesDistinct}
 use Rattle.ipx_site.specs.SiteMarks.{AfterMarks, marks_in, numbers_come, port_fds}
@@ -75,11 +76,12 @@ pub started_by : {R E : Type 0} (secret : Secret) (known : List ClientPlace) (si
     → IfOk started (λ s. IsToHear site.statics.items s.core.core.core)
     → IfOk started (λ s. (s.core.ports ≡ checked_ports site.ports.items) × (s.core.drops ≡ nothing_dropped_yet))
     → IfOk started (λ s. (s.core.core.ports ≡ router_ports site.ports.items) × (s.core.core.buckets ≡ fresh_buckets (limits_of site.ports.items)))
-    → IfOk started (λ s. ArePortsBound secret known site.ports.items s.ports) → IfOk started (λ s. s.ready.trace.items ≡ map Watched (port_fds s.ports)) → IfOk started (λ s. s.clock.last ≡ 0) → IfOk started (λ s. s.asked ≡ 0)
+    → IfOk started (λ s. ArePortsBound secret known site.ports.items s.ports) → IfOk started (λ s. s.ready.trace.items ≡ map Watched (port_fds s.ports)) → IfOk started (λ s. s.clock.last ≡ 0) → IfOk started (λ s. s.asked ≡ 0) → IfOk started (λ s. IsUncounted s.core) → IfOk started (λ s. HasDoneNothing s)
+    → IfOk started (λ s. HasFilteredNothing s.ports.datagrams.device)
     → IfOk started (λ s. StartsBy site s)
-started_by secret known site (Ok s) ports nothing empty statics checks queriers bound watched clock asked =
-    record { ports = ports; nothing = nothing; empty = empty; statics = statics; checks = checks; queriers = queriers; secret = secret; known = known; bound = bound; indices = subst (λ (it : List PortIndex). AreIndicesDistinct it) (sym bound.port_indices) (distinct site.ports.items); watched = watched; clock = clock; asked = asked }
-started_by secret known site (Err e) ports nothing empty statics checks queriers bound watched clock asked = tt
+started_by secret known site (Ok s) ports nothing empty statics checks queriers bound watched clock asked uncounted idle unfiltered =
+    record { ports = ports; nothing = nothing; empty = empty; statics = statics; checks = checks; queriers = queriers; secret = secret; known = known; bound = bound; indices = subst (λ (it : List PortIndex). AreIndicesDistinct it) (sym bound.port_indices) (distinct site.ports.items); watched = watched; clock = clock; asked = asked; uncounted = uncounted; idle = idle; unfiltered = unfiltered }
+started_by secret known site (Err e) ports nothing empty statics checks queriers bound watched clock asked uncounted idle unfiltered = tt
 
 -- a router that started as its file says started as some file says
 pub starts_by_file : {R : Type 0} (loaded : Result RouterConfig ℕ) (result : Result (RunningRouter R) ℕ) → IfOk loaded (λ s. (text : List ℕ) × IsFileText text × IsSiteText text s)

@@ -1,7 +1,7 @@
 -- What the router of a file does from its start until it ends: one round after another. The entry points are
 -- `StartsByFile`, `RunsTo` and, of both, `RoutesWell`; of a given text `StartsByText` and `RoutesByText`. Defined by
 -- this project.
-use Rattle.std.specs.Prelude.{◌≡◌, ◌^◌, ◌-◌, ◌++◌, ◌∷◌, ℕ, zero, suc, Bool, true, false, List, [], map, None}
+use Rattle.std.specs.Prelude.{◌≡◌, ◌^◌, ◌-◌, ◌++◌, ◌∷◌, ℕ, zero, suc, Bool, true, false, List, [], map, replicate, None}
 use Rattle.ipx_carrier.specs.PriorityRouterCore.{nothing_waits}
 use Rattle.ipx_carrier.specs.ReadySet.{AreMarked, is_any_marked}
 use Rattle.ipx_carrier.specs.Turns.{peers_of}
@@ -15,13 +15,16 @@ use Rattle.ipx_table_dump.specs.declared.client_places.ClientPlace.{ClientPlace}
 use Rattle.ipx_config.specs.Loading.{IsFileText}
 use Rattle.ipx_sockets.specs.PollEvents.{Waited, Watched}
 use Rattle.ipx_rate_limits.specs.PortLimits.{limits_of}
+use Rattle.ipx_site.specs.DropLog.{no_drops_logged}
+use Rattle.ipx_site.specs.NewRouters.{HasFilteredNothing, HasLoggedNobody, HasSeenNothing, IsUncounted}
 use Rattle.ipx_site.specs.PortsView.{ways_in}
-use Rattle.ipx_site.specs.RouterMetrics.{CountsRound}
+use Rattle.ipx_site.specs.RouterMetrics.{CountsRound, no_counts}
 use Rattle.ipx_site.specs.RouterRounds.{IsRound, SleepsAfter}
 use Rattle.ipx_config.specs.Site.{IsSiteText}
 use Rattle.ipx_site.specs.RouterMarks.{AreIndicesDistinct}
 use Rattle.ipx_site.specs.SiteMarks.{AfterMarks, marks_in, numbers_come, port_fds}
 use Rattle.ipx_sockets.specs.AccessLists.{access_by}
+use Rattle.ipx_sockets.specs.Moments.{never_logged}
 use Rattle.ipx_config.specs.SitePorts.{router_ports}
 use Rattle.ipx_site.specs.StaticNeighbours.{IsToHear}
 use Rattle.ipx_sockets.specs.Steady.{NeverGoesBack, StopsThere}
@@ -34,15 +37,27 @@ use Rattle.ipx_config.specs.declared.site.RouterConfig.{RouterConfig}
 abbrev pub KnowsNothing : RouterView → Type 0
 KnowsNothing r = (r.routes.offers ≡ []) × (r.services.offers ≡ []) × (r.advertised_at ≡ None)
 
+-- a running router has counted nothing itself, has not looked at what it knows, and has logged and written nothing
+pub record HasDoneNothing {R : Type 0} (r : RunningRouter R) : Type 0 where
+  pub totals : r.totals ≡ no_counts
+  pub looked : (r.looked ≡ None) × (r.responses ≡ 0)
+  pub known : HasSeenNothing r.route_changes
+  pub clients : HasLoggedNobody r.client_log
+  pub warnings : r.warnings.causes ≡ replicate 19 never_logged
+  pub drops : r.drops ≡ no_drops_logged
+  pub written : r.written ≡ None
+
 -- a router has started as its file says. It has the ports of the file, each with its socket and an index of
 -- its own, and all ipxnet ports with one secret and notes of some clients. It knows nothing of other routers, has
 -- nothing to send, and is to hear its static entries. It checks sources at its ports, and has dropped nothing. The limits at its ports are
 -- those of their kinds and of the file, and no query has come. Its poller watches the descriptors of
--- all its sockets, by kind, and has not waited. Its clock begins at 0, and it has not repeated its requests
+-- all its sockets, by kind, and has not waited. Its clock begins at 0, and it has not repeated its requests. It
+-- has counted, looked at, logged and written nothing
 pub record StartsBy {R : Type 0} (site : RouterConfig) (first : RunningRouter R) : Type 0 where
   pub ports : first.core.core.core.core.router.ports ≡ router_ports site.ports.items
   pub nothing : KnowsNothing first.core.core.core.core.router
   pub empty : first.core.core.core.core.queues ≡ nothing_waits
+  pub uncounted : IsUncounted first.core
   pub statics : IsToHear site.statics.items first.core.core.core
   pub checks : (first.core.ports ≡ checked_ports site.ports.items) × (first.core.drops ≡ nothing_dropped_yet)
   pub queriers : (first.core.core.ports ≡ router_ports site.ports.items)
@@ -50,10 +65,12 @@ pub record StartsBy {R : Type 0} (site : RouterConfig) (first : RunningRouter R)
   pub secret : Secret
   pub known : List ClientPlace
   pub bound : ArePortsBound secret known site.ports.items first.ports
+  pub unfiltered : HasFilteredNothing first.ports.datagrams.device
   pub indices : AreIndicesDistinct first.ports.port_indices.items
   pub watched : first.ready.trace.items ≡ map Watched (port_fds first.ports)
   pub clock : first.clock.last ≡ 0
   pub asked : first.asked ≡ 0
+  pub idle : HasDoneNothing first
 
 -- one round, which begins with the pings that are due, followed by one wait, as long as there is nothing to do.
 -- If the wait does not fail, the ports at which something came are marked, and no others. Marks of before stay,

@@ -1,11 +1,11 @@
 //! Logs the clients that connect to a router's ipxnet ports, those that time out, and the IP
 //! addresses from which none does.
 
-ghost use Rattle.std.specs.Prelude.{◌≡◌, ◌≤◌, ◌<◌, ◌↔◌, ◌+◌, ◌^◌, ◌++◌, [], ℕ, IfOk, None, OnErr, OnOk, Some, length};
+ghost use Rattle.std.specs.Prelude.{◌≡◌, ◌≤◌, ◌<◌, ◌↔◌, ◌+◌, ◌^◌, ◌++◌, [], ℕ, IfOk, None, OnErr, OnOk, Some, length, replicate};
 ghost use Rattle.ipx_site.specs.ClientLog.{IsClientLookDue, all_clients, clients_come, clients_gone, clients_logged, clients_without};
 ghost use Rattle.ipx_site.specs.ClientLog.{client_key, has_client_key, is_listed_client, max_client_lines, port_clients, port_index_clients};
 ghost use Rattle.ipx_site.specs.RepeatLog.{repeats_of_ports};
-ghost use Rattle.ipx_sockets.specs.Moments.{AreLoggedIfDue, HasPassed, IsReached};
+ghost use Rattle.ipx_sockets.specs.Moments.{AreLoggedIfDue, HasPassed, IsReached, never_logged};
 
 use crate::ipxnet_totals::client_count;
 use crate::repeat_log::RepeatLog;
@@ -229,6 +229,7 @@ impl ClientLog {
     pub fn new(alloc: Global) -> ClientLog
         ensures nobody { result.logged.items ≡ [] }
         ensures never { result.looked ≡ None }
+        ensures repeats { result.repeats.ports ≡ replicate 16 never_logged }
     {
         ClientLog {
             logged: Vec::new(alloc),

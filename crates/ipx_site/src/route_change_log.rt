@@ -1,6 +1,7 @@
 //! Logs the networks and services of others that a router learns and loses.
 
 ghost use Rattle.std.specs.Prelude.{◌≡◌, length};
+ghost use Rattle.ipx_site.specs.NewRouters.{HasSeenNothing};
 
 use ipx_config::Escaped;
 use ipx_router::Router;
@@ -141,7 +142,9 @@ fn look_at<R: Log, K: Told>(
 
 impl RouteChangeLog {
     /// Nothing is known yet.
-    pub fn new(alloc: Global) -> RouteChangeLog {
+    pub fn new(alloc: Global) -> RouteChangeLog
+        ensures { HasSeenNothing result }
+    {
         RouteChangeLog {
             networks: Vec::new(alloc),
             services: Vec::new(alloc),

@@ -12,10 +12,13 @@ ghost use Rattle.ipx_site.specs.KindPorts.{checked_port_of_kind, checked_ports, 
 ghost use Rattle.ipx_config.specs.PortLists.{datagram_places, datagram_ports};
 ghost use Rattle.ipx_sockets.specs.PollEvents.{Watched};
 ghost use Rattle.ipx_sockets.specs.Senders.{udp_events};
+ghost use Rattle.ipx_rate_limits.specs.DirectedBroadcasts.{no_directed_drops};
 ghost use Rattle.ipx_rate_limits.specs.PortLimits.{limits_of};
+ghost use Rattle.ipx_rate_limits.specs.RateLimiter.{no_query_drops};
 ghost use Rattle.ipx_config.specs.StaticLists.{HearsAtPorts};
 ghost use Rattle.ipx_site.specs.StaticNeighbours.{IsToHear};
-ghost use Rattle.ipx_site.specs.RoutingRuns.{KnowsNothing, RoutesWell};
+ghost use Rattle.ipx_site.specs.NewRouters.{CountsNothing, HasFilteredNothing, IsUncounted};
+ghost use Rattle.ipx_site.specs.RoutingRuns.{HasDoneNothing, KnowsNothing, RoutesWell};
 ghost use Rattle.ipx_site.specs.SiteMarks.{port_fds};
 ghost use Rattle.ipx_sockets.specs.AccessLists.{AccessListPorts, access_by};
 ghost use Rattle.ipx_config.specs.SitePorts.{access_of, heard_at_port, named, router_ports, site_peers, udp_ports};
@@ -115,6 +118,7 @@ fn hearing_statics(
     requires { All (λ n. IsPortNumber (length router.ports) n.port) neighbours.now }
     ensures router { IfOk result (λ c. c.core.router ≡ router) }
     ensures empty { IfOk result (λ c. c.core.queues ≡ nothing_waits) }
+    ensures uncounted { IfOk result (λ c. CountsNothing c.core) }
     ensures statics { IfOk result (λ c. AreStaticAdvertisements neighbours.now c.advertisements × (c.refreshed_at ≡ None)) }
 {
     let counted = MeteredRouter::new(alloc, router)?;
@@ -136,10 +140,12 @@ fn core_of(
     ensures router { IfOk result (λ c. c.core.core.router.ports ≡ router_ports ports.now) }
     ensures nothing { IfOk result (λ c. KnowsNothing c.core.core.router) }
     ensures empty { IfOk result (λ c. c.core.core.queues ≡ nothing_waits) }
+    ensures uncounted { IfOk result (λ c. CountsNothing c.core.core) }
     ensures statics { IfOk result (λ c. AreStaticAdvertisements neighbours.now c.core.advertisements
         × (c.core.refreshed_at ≡ None)) }
     ensures ports { IfOk result (λ c. c.ports ≡ router_ports ports.now) }
     ensures fresh { IfOk result (λ c. c.buckets ≡ fresh_buckets (limits_of ports.now)) }
+    ensures undropped { IfOk result (λ c. (c.kept ≡ no_query_drops) × (c.directed ≡ no_directed_drops)) }
 {
     let own = own_ports(alloc, ports)?;
     let limits = limits_of(alloc, ports)?;
@@ -160,6 +166,7 @@ fn core_of_file(
         c.core.core.core.router.ports ≡ router_ports site.now.ports.items) }
     ensures nothing { IfOk result (λ c. KnowsNothing c.core.core.core.router) }
     ensures empty { IfOk result (λ c. c.core.core.core.queues ≡ nothing_waits) }
+    ensures uncounted { IfOk result IsUncounted }
     ensures statics { IfOk result (λ c. IsToHear site.now.statics.items c.core.core) }
     ensures checks { IfOk result (λ c. (c.ports ≡ checked_ports site.now.ports.items)
         × (c.drops ≡ nothing_dropped_yet)) }
@@ -323,6 +330,7 @@ fn datagrams_of<R: Net>(
         ≡ datagram_places (datagram_ports ports.now)) }
     ensures fresh { IfOk result (λ d.
         udp_events d.device.device.sockets.items ≡ map (λ p. []) (datagram_ports ports.now)) }
+    ensures unfiltered { IfOk result (λ d. HasFilteredNothing d.device) }
 {
     let access_lists = access_lists_of(alloc, ports)?;
     let peers = peers_by_port(alloc, ports)?;
@@ -337,7 +345,8 @@ fn bound_ports<R: Net + Log>(
     kept: &SavedClients,
     ports: &[PortConfig],
 ) -> Result<UdpRouterPorts, RouteFault>
-    ensures { IfOk result (ArePortsBound kept.now.secret kept.now.clients.items ports.now) }
+    ensures bound { IfOk result (ArePortsBound kept.now.secret kept.now.clients.items ports.now) }
+    ensures unfiltered { IfOk result (λ p. HasFilteredNothing p.datagrams.device) }
 {
     let port_indices = port_indices_of(alloc, ports)?;
     let datagrams = datagrams_of(rt, alloc, ports)?;
@@ -377,6 +386,8 @@ pub(crate) fn start<'a, R: Net + Log + SystemClock>(
     ensures nothing { IfOk result (λ s. KnowsNothing s.core.core.core.core.router) }
     // No packet waits to be sent.
     ensures empty { IfOk result (λ s. s.core.core.core.core.queues ≡ nothing_waits) }
+    // Its core has counted nothing.
+    ensures uncounted { IfOk result (λ s. IsUncounted s.core) }
     // It is to hear the static entries of the file, and has not heard them yet.
     ensures statics { IfOk result (λ s. IsToHear site.statics.items s.core.core.core) }
     // It checks sources at these ports, and has dropped nothing yet.
@@ -390,10 +401,14 @@ pub(crate) fn start<'a, R: Net + Log + SystemClock>(
     // port its switch, and an ipxnet port its server with this secret and notes of these clients.
     ensures bound { IfOk result (λ s.
         ArePortsBound kept.secret kept.clients.items site.ports.items s.ports) }
+    // The access lists have dropped and refused nothing.
+    ensures unfiltered { IfOk result (λ s. HasFilteredNothing s.ports.datagrams.device) }
     // Its poller watches the descriptors of all ports, by kind, and has not waited.
     ensures watched { IfOk result (λ s. s.ready.trace.items ≡ map Watched (port_fds s.ports)) }
     ensures clock { IfOk result (λ s. s.clock.last ≡ 0) }
     ensures asked { IfOk result (λ s. s.asked ≡ 0) }
+    // Nor has it counted, looked at, logged or written anything itself.
+    ensures idle { IfOk result (λ s. HasDoneNothing s) }
 {
     let clock = SteadyClock::new(rt)?;
     let core = core_of_file(alloc, &site)?;

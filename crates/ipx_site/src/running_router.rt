@@ -1,18 +1,19 @@
 //! A router with its sockets, and its work besides the turns of its run.
 
-ghost use Rattle.std.specs.Prelude.{◌≡◌, ◌↔◌, ◌⊎◌, ◌<◌, ◌^◌, ◌++◌, ◌∷◌, [], ℕ, Bool, List, IfOk, OnOk, Some, is_err, is_ok, length, map, string_bytes};
+ghost use Rattle.std.specs.Prelude.{◌≡◌, ◌↔◌, ◌⊎◌, ◌<◌, ◌^◌, ◌++◌, ◌∷◌, [], ℕ, Bool, List, IfOk, OnOk, Some, is_err, is_ok, length, map, replicate, string_bytes, None};
 ghost use Rattle.ipx_carrier.specs.ReadySet.{AreMarked, is_any_marked};
 ghost use Rattle.ipx_carrier.specs.Turns.{peers_of};
 ghost use Rattle.ipx_site.specs.ClientLog.{IsClientLookDue};
-ghost use Rattle.ipx_site.specs.DropLog.{AreDropsLogged};
-ghost use Rattle.ipx_sockets.specs.Moments.{IsTimeUntilDue, AreLoggedIfDue, IsReached};
+ghost use Rattle.ipx_site.specs.DropLog.{AreDropsLogged, no_drops_logged};
+ghost use Rattle.ipx_sockets.specs.Moments.{IsTimeUntilDue, AreLoggedIfDue, IsReached, never_logged};
 ghost use Rattle.ipx_site.specs.IdleTime.{IsDue, IsLineDue, IsToSend, deadlines, counts_to_log, happened, happened_in, look_after};
 ghost use Rattle.ipx_site.specs.KnownFile.{TellsKnown};
 ghost use Rattle.ipx_site.specs.MetricsFile.{IsMetricsFile};
+ghost use Rattle.ipx_site.specs.NewRouters.{HasLoggedNobody, HasSeenNothing};
 ghost use Rattle.ipx_sockets.specs.PollEvents.{Waited};
 ghost use Rattle.ipx_sockets.specs.AccessLists.{access_by};
 ghost use Rattle.ipx_site.specs.PortsView.{ways_in};
-ghost use Rattle.ipx_site.specs.RouterMetrics.{AddsFaultsOfWork, AreMetrics, CountsRound};
+ghost use Rattle.ipx_site.specs.RouterMetrics.{AddsFaultsOfWork, AreMetrics, CountsRound, no_counts};
 ghost use Rattle.ipx_site.specs.RouterRounds.{AsksAgain, IsRound, SleepsAfter};
 ghost use Rattle.ipx_site.specs.SiteMarks.{AfterMarks, marks_in, numbers_come};
 ghost use Rattle.ipx_sockets.specs.Steady.{NeverGoesBack, StopsThere};
@@ -123,6 +124,14 @@ impl<'a, R: SystemClock> RunningRouter<'a, R> {
         ensures clock { result.clock ≡ parts.entry.clock }
         ensures ready { result.ready ≡ parts.entry.ready }
         ensures asked { result.asked ≡ 0 }
+        // It has counted, looked at, logged and written nothing.
+        ensures totals { result.totals ≡ no_counts }
+        ensures looked { (result.looked ≡ None) × (result.responses ≡ 0) }
+        ensures known { HasSeenNothing result.route_changes }
+        ensures clients { HasLoggedNobody result.client_log }
+        ensures warnings { result.warnings.causes ≡ replicate 19 never_logged }
+        ensures drops { result.drops ≡ no_drops_logged }
+        ensures written { result.written ≡ None }
     {
         RunningRouter {
             core: parts.core,

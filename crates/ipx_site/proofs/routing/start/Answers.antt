@@ -8,4 +8,16 @@ use Rattle.ipx_site.proofs.routing.start.Goals as goal
 pub new-requires-3 : goal.new-requires-3
 new-requires-3 g c =
     let ports = ap length c.in_ok-core.ensures.router ∙ length-map c.args.site.ports.items router_port_of_kind in
-    ap length (c.in_ok-ports.ensures.port_indices ∙ ap port_indices_of c.deref-2.ensures.value) ∙ as_many_port_indices [] c.args.site.ports.items ∙ sym ports
+    ap length (c.in_ok-ports.ensures.bound.port_indices ∙ ap port_indices_of c.deref-2.ensures.value) ∙ as_many_port_indices [] c.args.site.ports.items ∙ sym ports
+
+pub returns-clause-idle : goal.returns-clause-idle
+returns-clause-idle g c =
+    let e = c.new-3.ensures in record {
+      totals = e.totals;
+      looked = e.looked;
+      known = e.known;
+      clients = e.clients;
+      warnings = e.warnings;
+      drops = e.drops;
+      written = e.written;
+    }
