@@ -3,6 +3,7 @@ pub mod StaticNeighbourLists
 pub mod PortKinds
 pub mod Ports
 pub mod Rounds
+pub mod Worked
 pub mod Parts
 pub mod MetricLines
 pub mod Among

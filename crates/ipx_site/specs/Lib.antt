@@ -21,6 +21,7 @@ pub mod SiteMarks
 pub mod RepeatLog
 pub mod ClientLog
 pub mod KnownFile
+pub mod RouterWork
 pub mod NewRouters
 pub mod RoutingRuns
 pub mod IpxnetFile

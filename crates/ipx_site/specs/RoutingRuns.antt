@@ -20,6 +20,7 @@ use Rattle.ipx_site.specs.NewRouters.{HasFilteredNothing, HasLoggedNobody, HasSe
 use Rattle.ipx_site.specs.PortsView.{ways_in}
 use Rattle.ipx_site.specs.RouterMetrics.{CountsRound, no_counts}
 use Rattle.ipx_site.specs.RouterRounds.{IsRound, SleepsAfter}
+use Rattle.ipx_site.specs.RouterWork.{WorksInRound}
 use Rattle.ipx_config.specs.Site.{IsSiteText}
 use Rattle.ipx_site.specs.RouterMarks.{AreIndicesDistinct}
 use Rattle.ipx_site.specs.SiteMarks.{AfterMarks, marks_in, numbers_come, port_fds}
@@ -75,7 +76,7 @@ pub record StartsBy {R : Type 0} (site : RouterConfig) (first : RunningRouter R)
 -- one round, which begins with the pings that are due, followed by one wait, as long as there is nothing to do.
 -- If the wait does not fail, the ports at which something came are marked, and no others. Marks of before stay,
 -- and nothing else changes at the ports after the turns. The ways of packets, the port indices and the accepted senders are unchanged.
--- The totals count the batch of the round
+-- The totals count the batch of the round. Before its turns the router noted what was due as logged and written
 pub record TakesRound {R : Type 0} (old new : RunningRouter R) : Type 0 where
   pub between : SteadyClock R
   pub batch : Batch
@@ -90,6 +91,7 @@ pub record TakesRound {R : Type 0} (old new : RunningRouter R) : Type 0 where
       new.ports
   pub waits : new.ready.trace.items ≡ old.ready.trace.items ++ Waited time ∷ []
   pub totals : CountsRound batch old.totals new.totals
+  pub work : WorksInRound old.ports old.core new.ports.ethernet.moment old.asked new.asked batch old.totals new.totals old.warnings new.warnings old.drops new.drops old.written new.written
   pub moments : new.ports.servers.moment ≡ new.ports.ethernet.moment
   pub transmissions : ways_in new.ports ≡ ways_in old.ports
   pub peers : peers_of new.ports.datagrams.peers.items ≡ peers_of old.ports.datagrams.peers.items

@@ -15,6 +15,7 @@ ghost use Rattle.ipx_sockets.specs.AccessLists.{access_by};
 ghost use Rattle.ipx_site.specs.PortsView.{ways_in};
 ghost use Rattle.ipx_site.specs.RouterMetrics.{AddsFaultsOfWork, AreMetrics, CountsRound, no_counts};
 ghost use Rattle.ipx_site.specs.RouterRounds.{AsksAgain, IsRound, SleepsAfter};
+ghost use Rattle.ipx_site.specs.RouterWork.{IsDoneIfDue, WorksInRound};
 ghost use Rattle.ipx_site.specs.SiteMarks.{AfterMarks, marks_in, numbers_come};
 ghost use Rattle.ipx_sockets.specs.Steady.{NeverGoesBack, StopsThere};
 
@@ -203,6 +204,7 @@ impl<'a, R: SystemClock> RunningRouter<'a, R> {
         ensures totals { self.new.totals ≡ self.old.totals }
         ensures warnings { self.new.warnings ≡ self.old.warnings }
         ensures drops { self.new.drops ≡ self.old.drops }
+        ensures written { self.new.written ≡ self.old.written }
     {
         if let Some(moment) = discovery_retry(self.asked) {
             if now >= moment {
@@ -221,6 +223,7 @@ impl<'a, R: SystemClock> RunningRouter<'a, R> {
         ensures totals { AddsFaultsOfWork self.old.totals self.new.totals }
         ensures warnings { self.new.warnings ≡ self.old.warnings }
         ensures drops { self.new.drops ≡ self.old.drops }
+        ensures written { self.new.written ≡ self.old.written }
         ensures asked { self.new.asked ≡ self.old.asked }
     {
         if self.client_log.tell(rt, alloc, &self.ports, now).is_err() {
@@ -256,6 +259,7 @@ impl<'a, R: SystemClock> RunningRouter<'a, R> {
         ensures totals { AddsFaultsOfWork self.old.totals self.new.totals }
         ensures warnings { self.new.warnings ≡ self.old.warnings }
         ensures drops { self.new.drops ≡ self.old.drops }
+        ensures written { self.new.written ≡ self.old.written }
         ensures asked { self.new.asked ≡ self.old.asked }
     {
         let Some(path) = &self.tables_file else {
@@ -280,6 +284,7 @@ impl<'a, R: SystemClock> RunningRouter<'a, R> {
         ensures totals { AddsFaultsOfWork self.old.totals self.new.totals }
         ensures warnings { self.new.warnings ≡ self.old.warnings }
         ensures drops { self.new.drops ≡ self.old.drops }
+        ensures written { IsDoneIfDue 10000 now self.old.written self.new.written }
         ensures asked { self.new.asked ≡ self.old.asked }
     {
         if !is_over(self.written, PERIOD, now) {
@@ -309,6 +314,7 @@ impl<'a, R: SystemClock> RunningRouter<'a, R> {
         ensures totals { AddsFaultsOfWork self.old.totals self.new.totals }
         ensures warnings { self.new.warnings ≡ self.old.warnings }
         ensures drops { self.new.drops ≡ self.old.drops }
+        ensures written { self.new.written ≡ self.old.written }
         ensures asked { self.new.asked ≡ self.old.asked }
     {
         match self.clients_file.keep(rt, alloc, &self.ports, now) {
@@ -335,6 +341,8 @@ impl<'a, R: SystemClock> RunningRouter<'a, R> {
         // So are its drops.
         ensures drops { AreDropsLogged self.new.core.core.core.core.outcomes self.new.core.drops now
             self.old.drops self.new.drops }
+        // It notes this time for its files if that is due.
+        ensures written { IsDoneIfDue 10000 now self.old.written self.new.written }
     {
         self.ask(now);
         self.look(rt, alloc, now);
@@ -405,6 +413,11 @@ impl<'a, R: SystemClock> RunningRouter<'a, R> {
         // Its totals are what the work added, and then what the batch did not send, and the fault
         // that ended it.
         ensures totals { CountsRound result self.old.totals self.new.totals }
+        // Before its turns it notes at that time what is due, as logged and written.
+        ensures work { WorksInRound self.old.ports self.old.core self.new.ports.ethernet.moment
+            self.old.asked self.new.asked result self.old.totals self.new.totals
+            self.old.warnings self.new.warnings self.old.drops self.new.drops
+            self.old.written self.new.written }
         ensures ready { self.new.ready ≡ self.old.ready }
         // Ipxnet servers send and receive at the same time as Ethernet ports.
         ensures moments { self.new.ports.servers.moment ≡ self.new.ports.ethernet.moment }
@@ -447,6 +460,7 @@ impl<'a, R: SystemClock> RunningRouter<'a, R> {
         ensures totals { self.new.totals ≡ self.old.totals }
         ensures warnings { self.new.warnings ≡ self.old.warnings }
         ensures client_log { self.new.client_log ≡ self.old.client_log }
+        ensures drops { self.new.drops ≡ self.old.drops }
         ensures asked { self.new.asked ≡ self.old.asked }
         ensures looked { (self.new.looked ≡ self.old.looked)
             × (self.new.responses ≡ self.old.responses) × (self.new.written ≡ self.old.written) }
@@ -485,7 +499,11 @@ impl<'a, R: SystemClock> RunningRouter<'a, R> {
             × OnOk result (AreMarked (numbers_come self.new.ready) (marks_in ended)
             (marks_in self.new.ports))) self.new.ports
             × (self.new.ready.trace.items ≡ self.old.ready.trace.items ++ Waited time ∷ [])
-            × CountsRound batch self.old.totals self.new.totals }
+            × CountsRound batch self.old.totals self.new.totals
+            × WorksInRound self.old.ports self.old.core self.new.ports.ethernet.moment
+            self.old.asked self.new.asked batch self.old.totals self.new.totals
+            self.old.warnings self.new.warnings self.old.drops self.new.drops
+            self.old.written self.new.written }
         // It fails exactly if the wait did.
         ensures fault { is_err result ≡ self.new.ready.failed }
         ensures moments { self.new.ports.servers.moment ≡ self.new.ports.ethernet.moment }

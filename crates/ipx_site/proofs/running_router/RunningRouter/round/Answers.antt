@@ -1,10 +1,15 @@
-use Rattle.std.proofs.Common.{◌≡◌, ℕ, List, None, ◌∙◌, ap, arith, length, min, subst}
+use Rattle.std.proofs.Common.{◌≡◌, ℕ, List, None, ◌∙◌, ap, arith, length, min, subst, sym}
 use Rattle.ipx_ipxnet_ports.specs.OnServers.{PingsThroughSockets, servers_view}
 use Rattle.ipx_ipxnet_ports.specs.ServerAddresses.{SendsByServerSockets}
 use Rattle.ipx_ipxnet_ports.specs.declared.server_ports.Servers.{Servers}
 use Rattle.ipx_ipxnet_ports.specs.declared.sockets.ServerSockets.{ServerSockets}
+use Rattle.ipx_site.specs.DropLog.{AreDropsLogged}
+use Rattle.ipx_site.specs.IdleTime.{counts_to_log, happened}
 use Rattle.ipx_site.specs.PortsView.{ways_in}
 use Rattle.ipx_site.specs.RouterPings.{BeginsTurns, ipxnet_in}
+use Rattle.ipx_site.specs.RouterRounds.{AsksAgain}
+use Rattle.ipx_site.specs.RouterWork.{IsDoneIfDue}
+use Rattle.ipx_sockets.specs.Moments.{AreLoggedIfDue}
 use Rattle.ipx_sockets.specs.Steady.{NeverGoesBack, StopsThere}
 use Rattle.ipx_site.proofs.PortsRun.{ways_pinged, ways_stay}
 use Rattle.ipx_site.proofs.Rounds.{is_round}
@@ -40,3 +45,22 @@ returns-clause-core g c =
 
 pub returns-clause-totals : goal.returns-clause-totals
 returns-clause-totals g c = (c.keep.new.self.totals, c.keep.ensures.totals, c.add.ensures)
+
+pub returns-clause-work : goal.returns-clause-work
+returns-clause-work g c =
+    let self = c.args.self.now in
+    let kept = c.keep.new.self in
+    let now = c.stop-now.result in
+    let moment : c.run_batch-batch.new.driver.ethernet.moment ≡ now =
+    ap (λ k. k.2) c.run_batch-batch.ensures.kept ∙ ap (λ w. w.moment) c.send_pings.ensures.ethernet ∙ ap (λ w. w.moment) c.set_time.ensures.ethernet in
+    let told = subst (λ p. AreLoggedIfDue (counts_to_log (happened kept.totals kept.core p)) now self.warnings.causes kept.warnings.causes) c.keep.ensures.ports c.keep.ensures.told in
+    record {
+      mid = kept.core;
+      asks = subst (λ (m : ℕ). AsksAgain m self.asked kept.asked self.core kept.core) (sym moment) c.keep.ensures.core;
+      worked = kept.totals;
+      faults = c.keep.ensures.totals;
+      batch = c.add.ensures;
+      warns = subst (λ (m : ℕ). AreLoggedIfDue (counts_to_log (happened kept.totals kept.core self.ports)) m self.warnings.causes kept.warnings.causes) (sym moment) told;
+      logs = subst (λ (m : ℕ). AreDropsLogged kept.core.core.core.core.outcomes kept.core.drops m self.drops kept.drops) (sym moment) c.keep.ensures.drops;
+      writes = subst (λ (m : ℕ). IsDoneIfDue 10000 m self.written kept.written) (sym moment) c.keep.ensures.written;
+    }

@@ -8,6 +8,7 @@ use Rattle.ipx_site.specs.SiteMarks.{marks_in}
 use Rattle.ipx_sockets.specs.Steady.{NeverGoesBack, StopsThere}
 use Rattle.ipx_site.proofs.MarksSeparate.{happened_separate, same_marks}
 use Rattle.ipx_site.proofs.Rounds.{round_then, same_deadlines, sleeps_then}
+use Rattle.ipx_site.proofs.Worked.{works_then}
 use Rattle.ipx_site.proofs.running_router.RunningRouter.step.Goals as goal
 
 pub returns-in_err-wait-clause-core : goal.returns-in_err-wait-clause-core
@@ -42,6 +43,8 @@ returns-in_err-wait-clause-core g c =
       ),
       waits_once,
       subst (λ it. CountsRound b old.totals it) (sym e.totals) c.round-batch.ensures.totals,
+      works_then old.ports old.core old.asked b old.totals old.warnings old.drops old.written s.ports.ethernet.moment _ s.asked _ s.totals _ s.warnings _ s.drops _ s.written _
+          (ap (λ it. it.ethernet.moment) e.ports) e.asked e.totals e.warnings e.drops e.looked.2 c.round-batch.ensures.work,
     )
 
 pub returns-clause-core : goal.returns-clause-core
@@ -81,4 +84,6 @@ returns-clause-core g c =
       ),
       waits_once,
       subst (λ it. CountsRound b old.totals it) (sym e.totals) c.round-batch.ensures.totals,
+      works_then old.ports old.core old.asked b old.totals old.warnings old.drops old.written s.ports.ethernet.moment _ s.asked _ s.totals _ s.warnings _ s.drops _ s.written _
+          (ap (λ it. it.moment) m.ethernet ∙ ap (λ it. it.ethernet.moment) e.ports) e.asked e.totals e.warnings e.drops e.looked.2 c.round-batch.ensures.work,
     )
