@@ -166,15 +166,6 @@ peer_remark whose address earlier peer =
     then whose ++ (codes "peer " ++ (dotted_text peer ++ codes " is not a usable unicast address\n"))
     else []))
 
--- the remark about a remote that is the port's own place or repeats an earlier remote; empty for any other
-abbrev pub ethernet_end_remark : List ℕ → SocketAddrV4 → List SocketAddrV4 → SocketAddrV4 → List ℕ
-ethernet_end_remark whose own earlier end =
-    if is_same_place own end
-    then whose ++ (ethernet_end_text end ++ codes " is the port's own address\n")
-    else (if list_any (is_same_place end) earlier
-    then whose ++ (ethernet_end_text end ++ codes " is listed twice\n")
-    else [])
-
 -- the remark about a joined router at the port's own place; empty for any other
 abbrev pub joined_remark : List ℕ → SocketAddrV4 → SocketAddrV4 → List ℕ
 joined_remark whose own router =
@@ -227,8 +218,7 @@ peer_line whose (Host name) = host_line whose (string_bytes name)
 -- the remarks about the addresses that a port sends to, each after the words that say which port it is
 abbrev pub reached_remarks : List ℕ → PortConfig → List ℕ
 reached_remarks whose (Rfc1234 p) = each_after (peer_remark whose p.address) [] p.peers.items
-reached_remarks whose (Ethernet p) =
-    each_after (ethernet_end_remark (whose ++ codes "remote") (place_of_kind (Ethernet p))) [] p.ends.items
+reached_remarks whose (Ethernet p) = []
 reached_remarks whose (Ipxnet p) = flat_map (peer_line whose) p.peers.items
     ++ (ignored_remark whose p.accept (length p.peers.items)
     ++ (node_remark whose p ++ flat_map (joined_remark whose (place_of_kind (Ipxnet p))) p.join.items))

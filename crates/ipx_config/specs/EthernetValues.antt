@@ -58,6 +58,10 @@ abbrev pub AreEthernetEnds : Data → Vec SocketAddrV4 Global → Type 0
 AreEthernetEnds d ends = (ds : Items) × (as_array d ≡ Some ds) × AreEach IsEthernetEnd ds ends.items
     × (1 ≤ length ends.items) × (length ends.items ≤ 256)
 
+-- such an array for a port at this place of its own: each place is listed once, and none of them is its own
+abbrev pub AreRemotesOf : SocketAddrV4 → Data → Vec SocketAddrV4 Global → Type 0
+AreRemotesOf own d ends = AreEthernetEnds d ends × (are_places_distinct (own ∷ ends.items) ≡ true)
+
 -- digits in pairs, with a colon before each pair but the first
 abbrev pub with_colons : List ℕ → List ℕ
 with_colons [] = []

@@ -3,7 +3,7 @@
 ghost use Rattle.std.specs.Prelude.{◌≡◌, ◌<◌, ◌≤◌, ◌++◌, ℕ, List, [], IfErr, IfOk, IsOkAnd, OnOk, length, string_bytes};
 ghost use Rattle.std.specs.Io.KnownBytes.{Appends};
 ghost use Rattle.std.specs.List.{flat_map};
-ghost use Rattle.ipx_config.specs.Checked.{count_text, each_after, file_line, file_name_text, ignored_remark, joined_remark, node_remark, peer_line, peer_remark, port_lines, reached_remarks, site_lines, status_text, ethernet_end_remark};
+ghost use Rattle.ipx_config.specs.Checked.{count_text, each_after, file_line, file_name_text, ignored_remark, joined_remark, node_remark, peer_line, peer_remark, port_lines, reached_remarks, site_lines, status_text};
 ghost use Rattle.ipx_config.specs.Loading.{IsFileText};
 ghost use Rattle.ipx_config.specs.Site.{IsSiteText};
 ghost use Rattle.ipx_config.specs.declared.site.RouterConfig.{RouterConfig as ASiteFile};
@@ -60,45 +60,6 @@ pub fn peers_to_remarks(
     let mut remarks = String::new(alloc);
     for (place, peer) in peers.iter().enumerate() {
         let line = peer_to_remark(alloc, whose, address, &peers[..place], *peer)?;
-        remarks.push_str(&line)?;
-    }
-    Ok(remarks)
-}
-
-/// The remark about a remote that follows the `earlier` remotes; empty if there is none.
-fn end_to_remark(
-    alloc: Global,
-    whose: &str,
-    own: SocketAddrV4,
-    earlier: &[SocketAddrV4],
-    end: SocketAddrV4,
-) -> Result<String, AllocError>
-    ensures { IfOk result (λ t. string_bytes t ≡ ethernet_end_remark whose.now own earlier.now end) }
-{
-    let reached = end_to_text(alloc, end)?;
-    if end == own {
-        return format!(in alloc; "{whose}{reached} is the port's own address\n");
-    }
-    if earlier.contains(&end) {
-        return format!(in alloc; "{whose}{reached} is listed twice\n");
-    }
-    Ok(String::new(alloc))
-}
-
-/// The remarks about the remotes of an Ethernet port. There is one line for each remote that is the
-/// port's own place, or repeats an earlier remote.
-fn ends_to_remarks(
-    alloc: Global,
-    whose: &str,
-    own: SocketAddrV4,
-    ends: &[SocketAddrV4],
-) -> Result<String, AllocError>
-    ensures { IfOk result (λ t. string_bytes t
-        ≡ each_after (ethernet_end_remark whose.now own) [] ends.now) }
-{
-    let mut remarks = String::new(alloc);
-    for (place, end) in ends.iter().enumerate() {
-        let line = end_to_remark(alloc, whose, own, &ends[..place], *end)?;
         remarks.push_str(&line)?;
     }
     Ok(remarks)
@@ -195,10 +156,7 @@ fn reached_to_remarks(alloc: Global, whose: &str, port: &PortConfig) -> Result<S
     let own = port.place();
     match port {
         PortConfig::Rfc1234(port) => peers_to_remarks(alloc, whose, port.address, &port.peers),
-        PortConfig::Ethernet(port) => {
-            let end = format!(in alloc; "{whose}remote")?;
-            ends_to_remarks(alloc, &end, own, &port.ends)
-        }
+        PortConfig::Ethernet(_) => Ok(String::new(alloc)),
         PortConfig::Ipxnet(port) => ipxnet_to_remarks(alloc, whose, own, port),
     }
 }

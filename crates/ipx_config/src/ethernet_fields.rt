@@ -4,9 +4,9 @@ ghost use Rattle.std.specs.Prelude.{true};
 ghost use Rattle.toml.specs.View.{table_view};
 ghost use Rattle.ipx_config.specs.Fields.{Gives, GivesOr};
 ghost use Rattle.ipx_config.specs.Values.{IsCount};
-ghost use Rattle.ipx_config.specs.EthernetValues.{AreEthernetEnds, IsEncapsulation, IsFlag, IsStation};
+ghost use Rattle.ipx_config.specs.EthernetValues.{AreRemotesOf, IsEncapsulation, IsFlag, IsStation};
 
-use crate::ethernet_values::{encapsulation_of, ends_of, flag_of, station_of};
+use crate::ethernet_values::{encapsulation_of, flag_of, remotes_of, station_of};
 use crate::fault::ConfigError;
 use crate::fields::{held, required};
 use crate::key::Key;
@@ -42,15 +42,16 @@ pub fn required_count_in(
     }
 }
 
-/// The remotes of an Ethernet port.
+/// The remotes of an Ethernet port at its own place.
 pub fn remotes_in(
     alloc: Global,
     table: &Table,
     number: usize,
+    own: SocketAddrV4,
 ) -> Result<Vec<SocketAddrV4>, ConfigError>
-    ensures { Gives AreEthernetEnds Key.Remotes (table_view table.now) number result }
+    ensures { Gives (AreRemotesOf own) Key.Remotes (table_view table.now) number result }
 {
-    match ends_of(alloc, required(table, number, Key::Remotes)?)? {
+    match remotes_of(alloc, own, required(table, number, Key::Remotes)?)? {
         Some(ends) => Ok(ends),
         None => Err(ConfigError::Wrong(number, Key::Remotes)),
     }

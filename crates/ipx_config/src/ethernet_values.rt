@@ -1,9 +1,9 @@
 //! The values of the keys of an Ethernet port.
 
-ghost use Rattle.std.specs.Prelude.{◌≡◌, IfOk};
+ghost use Rattle.std.specs.Prelude.{◌≡◌, ◌∷◌, IfOk};
 ghost use Rattle.toml.specs.View.{items_view, view};
 ghost use Rattle.ipx_config.specs.Fields.{Reads};
-ghost use Rattle.ipx_config.specs.EthernetValues.{AreEthernetEnds, IsEncapsulation, IsFlag, IsStation, IsEthernetEnd, ReadsDigits, ReadsPlace, ReadsStation, ReadsEthernetEnds, frame_word, is_somewhere, is_station, made_station};
+ghost use Rattle.ipx_config.specs.EthernetValues.{AreEthernetEnds, AreRemotesOf, IsEncapsulation, IsFlag, IsStation, IsEthernetEnd, ReadsDigits, ReadsPlace, ReadsStation, ReadsEthernetEnds, are_places_distinct, frame_word, is_somewhere, is_station, made_station};
 
 use crate::allowed_peer::MAX_ENTRIES;
 use ipx_ethernet::Encapsulation;
@@ -88,7 +88,7 @@ fn places_of(alloc: Global, values: &[Value]) -> Result<Option<Vec<SocketAddrV4>
     Ok(Some(ends))
 }
 
-/// The remotes that a value lists, 1 to 256.
+/// The places that a value lists, 1 to 256.
 pub fn ends_of(alloc: Global, value: &Value) -> Result<Option<Vec<SocketAddrV4>>, OutOfMemory>
     ensures { IfOk result (Reads AreEthernetEnds (view value.now)) }
 {
@@ -100,6 +100,44 @@ pub fn ends_of(alloc: Global, value: &Value) -> Result<Option<Vec<SocketAddrV4>>
         return Ok(None);
     }
     places_of(alloc, values)
+}
+
+/// Whether no place is listed twice.
+pub(crate) fn are_distinct(places: &[SocketAddrV4]) -> bool
+    ensures { result ≡ are_places_distinct places.now }
+{
+    for (index, place) in places.iter().enumerate() {
+        if places[index + 1..].contains(place) {
+            return false;
+        }
+    }
+    true
+}
+
+/// Whether a port at its own place can have these remotes: each is listed once, and none is the port
+/// itself.
+fn are_others(own: SocketAddrV4, places: &[SocketAddrV4]) -> bool
+    ensures { result ≡ are_places_distinct (own ∷ places.now) }
+{
+    !places.contains(&own) && are_distinct(places)
+}
+
+/// The remotes that a value lists for a port at its own place.
+pub fn remotes_of(
+    alloc: Global,
+    own: SocketAddrV4,
+    value: &Value,
+) -> Result<Option<Vec<SocketAddrV4>>, OutOfMemory>
+    ensures { IfOk result (Reads (AreRemotesOf own) (view value.now)) }
+{
+    let Some(ends) = ends_of(alloc, value)? else {
+        return Ok(None);
+    };
+    if are_others(own, &ends) {
+        Ok(Some(ends))
+    } else {
+        Ok(None)
+    }
 }
 
 /// The twelve digits of six pairs with colons between them.

@@ -9,9 +9,11 @@ use crate::ipxnet_peers::is_peer;
 use crate::key::Key;
 use crate::text::{LAST_PORT, LAST_ROUTE};
 use crate::toml_text::table_of;
-use crate::values::parse_ip_address;
+use crate::values::{count_of, parse_ip_address};
+use ipx_carrier::socket_addr;
 use std::alloc::Global;
 use std::fmt;
+use std::net::SocketAddrV4;
 use toml::{Table, Value};
 
 /// The line of a fault, and after it a remark about what is in the text: whether quotes are missing,
@@ -145,8 +147,30 @@ fn is_in_peers(table: &Table, value: &Value) -> bool {
     peers.is_some_and(|peers| peers.iter().any(|peer| parse_ip_address(peer) == ip))
 }
 
-/// Why an entry of a list is wrong.
-fn entry_fault(table: &Table, key: Key, value: &Value) -> Option<&'static str> {
+/// Where the port of a table is bound.
+fn place_of_port(table: &Table) -> Option<SocketAddrV4> {
+    let ip = parse_ip_address(held(table, Key::Address)?)?;
+    let udp_port = count_of(held(table, Key::UdpPort)?, 65535)?;
+    Some(socket_addr(ip, udp_port))
+}
+
+/// Why an entry of a list of places is wrong, after the `earlier` ones.
+fn place_fault(table: &Table, key: Key, earlier: &[Value], value: &Value) -> Option<&'static str> {
+    let place = end_of(value);
+    if place.is_none() {
+        return Some("is no valid address:port");
+    }
+    if matches!(key, Key::Remotes) && place == place_of_port(table) {
+        return Some("is the port's own address");
+    }
+    if earlier.iter().any(|other| end_of(other) == place) {
+        return Some("is listed twice");
+    }
+    None
+}
+
+/// Why an entry of a list is wrong, after the `earlier` ones.
+fn entry_fault(table: &Table, key: Key, earlier: &[Value], value: &Value) -> Option<&'static str> {
     match key {
         Key::Peers if is_ipxnet(table) => {
             if is_peer(value) {
@@ -158,7 +182,7 @@ fn entry_fault(table: &Table, key: Key, value: &Value) -> Option<&'static str> {
             Some("is no valid IP address")
         }
         Key::Routers if !is_in_peers(table, value) => Some("is not in peers"),
-        Key::Remotes | Key::Join if end_of(value).is_none() => Some("is no valid address:port"),
+        Key::Remotes | Key::Join => place_fault(table, key, earlier, value),
         Key::Allow if origin_of(value).is_none() => Some("is no valid network"),
         _ => None,
     }
@@ -172,7 +196,7 @@ fn write_list<W: fmt::Write>(
     values: &[Value],
 ) -> fmt::Result {
     for (index, value) in values.iter().enumerate() {
-        let Some(fault) = entry_fault(table, key, value) else {
+        let Some(fault) = entry_fault(table, key, &values[..index], value) else {
             continue;
         };
         return match value.as_str() {

@@ -3,10 +3,9 @@
 ghost use Rattle.std.specs.Prelude.{◌≡◌, ◌⊎◌, IfErr, IfOk};
 ghost use Rattle.toml.specs.View.{table_view};
 ghost use Rattle.ipx_config.specs.IpxnetTable.{AreJoinedRouters, ArePeersFor, IsIpxnetFault, IsIpxnetTable, IsJoinFault, IsPeersFault};
-ghost use Rattle.ipx_config.specs.EthernetValues.{are_places_distinct};
 
 use crate::ethernet_fields::station_in;
-use crate::ethernet_values::{ends_of, station_at};
+use crate::ethernet_values::{are_distinct, ends_of, station_at};
 use crate::fault::ConfigError;
 use crate::fields::{
     accept_in, any_or_address_in, count_in, directed_in, held, network_in, refuse_stray,
@@ -46,18 +45,6 @@ fn registering_in(
         Some(peers) => Ok(peers),
         None => Err(ConfigError::Wrong(number, Key::Peers)),
     }
-}
-
-/// Whether no place is listed twice.
-fn are_distinct(places: &[SocketAddrV4]) -> bool
-    ensures { result ≡ are_places_distinct places.now }
-{
-    for (index, place) in places.iter().enumerate() {
-        if places[index + 1..].contains(place) {
-            return false;
-        }
-    }
-    true
 }
 
 /// The routers whose ipxnet servers are joined with that of a port, each listed once. There are

@@ -110,7 +110,9 @@ impl Key {
             }
             Key::Kind => "\"rfc1234\", \"ethernet\" or \"ipxnet\"",
             Key::Encapsulation => "\"802.3\", \"802.2\", \"snap\" or \"ethernet-ii\"",
-            Key::Remotes => "a list of 1 to 256 address:port, such as [\"127.0.0.1:24001\"]",
+            Key::Remotes => {
+                "a list of 1 to 256 address:port, each listed once, such as [\"127.0.0.1:24001\"]"
+            }
             Key::Node => "the MAC address of one station, such as \"02:00:00:00:00:22\"",
             Key::Switch => "true or false",
             Key::Clients => "a number from 1 to 150, such as 64",

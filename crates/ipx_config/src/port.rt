@@ -17,7 +17,7 @@ use crate::fields::{
 use crate::ipxnet_fields::ipxnet_port_in;
 use crate::key::Key;
 use crate::site::{EthernetPortConfig, Kind, PortConfig, Rfc1234PortConfig};
-use ipx_carrier::UDP_PORT;
+use ipx_carrier::{UDP_PORT, socket_addr};
 use std::alloc::Global;
 use toml::Table;
 
@@ -68,7 +68,8 @@ fn ethernet_port(
     let address = address_in(table, number, Key::Address)?;
     let udp_port = required_count_in(table, number, Key::UdpPort, 65535)?;
     let cost = count_in(table, number, Key::Cost, 65535, 1)?;
-    let ends = remotes_in(alloc, table, number)?;
+    let own = socket_addr(address, udp_port);
+    let ends = remotes_in(alloc, table, number, own)?;
     let made = station_at(address, udp_port);
     let node = station_in(table, number, made)?;
     let switched = switch_in(table, number)?;

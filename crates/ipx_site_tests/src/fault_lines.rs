@@ -22,7 +22,7 @@ const HOST: &str =
     "network = \"00000011\"\naddress = \"10.1.0.20\"\nrouter = \"10.1.0.1\"\nsocket = \"4002\"\n";
 
 /// A port, what follows it in the file of a router, and how the line of the fault ends.
-const SITES: [(&str, &str, &str); 31] = [
+const SITES: [(&str, &str, &str); 34] = [
     (
         "[[port]]\nnetwork = \"00000011\n",
         PLAIN,
@@ -140,9 +140,24 @@ const SITES: [(&str, &str, &str); 31] = [
         "; \"10.1.0.2\" is no valid address:port",
     ),
     (
+        WIRE,
+        "remotes = [\"10.1.0.2:1\", \"10.1.0.2:2\", \"10.1.0.2:1\"]",
+        "such as [\"127.0.0.1:24001\"]; \"10.1.0.2:1\" is listed twice",
+    ),
+    (
+        WIRE,
+        "remotes = [\"10.1.0.2:24002\", \"10.1.0.1:24002\", \"10.1.0.2:24002\"]",
+        "; \"10.1.0.1:24002\" is the port's own address",
+    ),
+    (
         PLAYERS,
         "join = [\"10.1.0.2:1\", \"r2:2130\"]",
         "; \"r2:2130\" is no valid address:port",
+    ),
+    (
+        PLAYERS,
+        "join = [\"10.1.0.2:1\", \"10.1.0.2:1\"]",
+        "such as [\"198.51.100.7:2130\"]; \"10.1.0.2:1\" is listed twice",
     ),
     (
         PLAYERS,

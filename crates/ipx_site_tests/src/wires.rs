@@ -108,35 +108,47 @@ address = \"127.0.0.1\"
 udp_port = 24002
 ";
 
-const ETHERNET: [(&str, &str); 17] = [
+const ETHERNET: [(&str, &str); 20] = [
     ("remotes = [\"127.0.0.1:24001\"]", "none"),
     (
         "",
-        "port 1: remotes is missing: expected a list of 1 to 256 address:port, such as [\"127.0.0.1:24001\"]",
+        "port 1: remotes is missing: expected a list of 1 to 256 address:port, each listed once, such as [\"127.0.0.1:24001\"]",
     ),
     (
         "remotes = []",
-        "port 1: remotes: expected a list of 1 to 256 address:port, such as [\"127.0.0.1:24001\"]",
+        "port 1: remotes: expected a list of 1 to 256 address:port, each listed once, such as [\"127.0.0.1:24001\"]",
     ),
     (
         "remotes = \"127.0.0.1:24001\"",
-        "port 1: remotes: expected a list of 1 to 256 address:port, such as [\"127.0.0.1:24001\"]",
+        "port 1: remotes: expected a list of 1 to 256 address:port, each listed once, such as [\"127.0.0.1:24001\"]",
     ),
     (
         "remotes = [\"127.0.0.1\"]",
-        "port 1: remotes: expected a list of 1 to 256 address:port, such as [\"127.0.0.1:24001\"]",
+        "port 1: remotes: expected a list of 1 to 256 address:port, each listed once, such as [\"127.0.0.1:24001\"]",
     ),
     (
         "remotes = [\"127.0.0.1:24001\", \"0.0.0.0:24001\"]",
-        "port 1: remotes: expected a list of 1 to 256 address:port, such as [\"127.0.0.1:24001\"]",
+        "port 1: remotes: expected a list of 1 to 256 address:port, each listed once, such as [\"127.0.0.1:24001\"]",
     ),
     (
         "remotes = [\"127.0.0.1:0\"]",
-        "port 1: remotes: expected a list of 1 to 256 address:port, such as [\"127.0.0.1:24001\"]",
+        "port 1: remotes: expected a list of 1 to 256 address:port, each listed once, such as [\"127.0.0.1:24001\"]",
     ),
     (
         "remotes = [\"127.0.0.1:65536\"]",
-        "port 1: remotes: expected a list of 1 to 256 address:port, such as [\"127.0.0.1:24001\"]",
+        "port 1: remotes: expected a list of 1 to 256 address:port, each listed once, such as [\"127.0.0.1:24001\"]",
+    ),
+    (
+        "remotes = [\"127.0.0.1:24001\", \"127.0.0.1:24003\", \"127.0.0.1:24001\"]",
+        "port 1: remotes: expected a list of 1 to 256 address:port, each listed once, such as [\"127.0.0.1:24001\"]",
+    ),
+    (
+        "remotes = [\"127.0.0.1:24001\", \"127.0.0.1:24002\"]",
+        "port 1: remotes: expected a list of 1 to 256 address:port, each listed once, such as [\"127.0.0.1:24001\"]",
+    ),
+    (
+        "remotes = [\"127.0.0.2:24002\", \"127.0.0.1:24001\", \"127.0.0.2:24001\"]",
+        "none",
     ),
     (
         "remotes = [\"127.0.0.1:24001\"]\nnode = \"020000000022\"",
@@ -229,8 +241,9 @@ fn lines_of_kinds(rt: HostRuntime) -> Result<(), AllocError> {
 /// A list of this many remotes.
 fn ends(rt: &HostRuntime, count: usize) -> Result<String, AllocError> {
     let mut text = format!(in rt.alloc(); "{START}remotes = [")?;
-    for _ in 0..count {
-        text.push_str("\"127.0.0.1:24001\", ")?;
+    for port in 1..=count {
+        let end = format!(in rt.alloc(); "\"127.0.0.1:{port}\", ")?;
+        text.push_str(end.as_str())?;
     }
     text.push_str("]\n")?;
     Ok(text)

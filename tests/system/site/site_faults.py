@@ -61,6 +61,7 @@ UNQUOTED = ('invalid value, expected a string, number, boolean, date-time, array
 QUOTED, NO_QUOTES = "; write it in double quotes", "; write it without quotes"
 NO_IP, NO_PLACE, NO_NETWORK = (f"is no valid {what}" for what in ("IP address", "address:port", "network"))
 NO_TEXT = "is no text in double quotes"
+TWICE, OWN_END, AT_WIRE = "is listed twice", "is the port's own address", "127.0.1.1:20999"
 MANY = "the list has 257 entries"
 UNCLOSED = "invalid string; its closing quote is missing"
 COMMA = "missing comma between array elements, expected `,` or `]`"
@@ -72,7 +73,7 @@ ACCEPT = '"peers" or "any"'
 DIRECTED = '"none", "few" or "all"'
 KIND = '"rfc1234", "ethernet" or "ipxnet"'
 FRAME = '"802.3", "802.2", "snap" or "ethernet-ii"'
-ENDS = 'a list of 1 to 256 address:port, such as ["127.0.0.1:24001"]'
+ENDS = 'a list of 1 to 256 address:port, each listed once, such as ["127.0.0.1:24001"]'
 STATION = 'the MAC address of one station, such as "02:00:00:00:00:22"'
 ROUTE_KEYS = "the keys are port, next_hop, network, hops and ticks"
 SERVICE_KEYS = "the keys are port, next_hop, type, name, ipx_address and hops"
@@ -226,7 +227,10 @@ ROUTER_FILES = [
     (changed(WIRE, "remotes", '["127.0.1.3:20998", "localhost:20998"]'), f'port 1: remotes: expected {ENDS}; "localhost:20998" {NO_PLACE}'),
     (changed(WIRE, "remotes", '["0.0.0.0:20998"]'), f'port 1: remotes: expected {ENDS}; "0.0.0.0:20998" {NO_PLACE}'),
     (changed(WIRE, "remotes", '["127.0.1.3:0"]'), f'port 1: remotes: expected {ENDS}; "127.0.1.3:0" {NO_PLACE}'),
-    (changed(WIRE, "remotes", str(["127.0.1.3:20998"] * 257).replace("'", '"')), f"port 1: remotes: expected {ENDS}; {MANY}"),
+    (changed(WIRE, "remotes", '["127.0.1.3:20998", "127.0.1.3:20997", "127.0.1.3:20998"]'),
+     f'port 1: remotes: expected {ENDS}; "127.0.1.3:20998" {TWICE}'),
+    (changed(WIRE, "remotes", f'["127.0.1.3:20998", "{AT_WIRE}"]'), f'port 1: remotes: expected {ENDS}; "{AT_WIRE}" {OWN_END}'),
+    (changed(WIRE, "remotes", str([f"127.0.1.3:{1 + it}" for it in range(257)]).replace("'", '"')), f"port 1: remotes: expected {ENDS}; {MANY}"),
     (WIRE + "node = \"020000000022\"\n", f"port 1: node: expected {STATION}"),
     (WIRE + "node = \"03:00:00:00:00:22\"\n", f"port 1: node: expected {STATION}"),
     (WIRE + "node = \"00:00:00:00:00:00\"\nswitch = 1\n", f"port 1: node: expected {STATION}"),
@@ -448,7 +452,7 @@ network = "00000022"
 encapsulation = "802.2"
 address = "127.0.0.1"
 udp_port = 24002
-remotes = ["127.0.0.1:24001", "127.0.0.1:24002", "127.0.0.1:24001"]
+remotes = ["127.0.0.1:24001", "127.0.0.1:24005"]
 node = "02:00:00:00:00:22"
 
 [[port]]
@@ -603,8 +607,7 @@ CHECKED = [
                        "service 0643 BACKUP: no port and no static route leads to network 000000aa: it must be learned by RIP",
                        "it.toml: 2 ports, no metrics_file"]),
     ("route", WIRED, ["port 1 network 00000022 node 020000000022 ethernet 802.2 udp 127.0.0.1:24002 cost 1"
-                      " remotes 127.0.0.1:24001 127.0.0.1:24002 127.0.0.1:24001",
-                      "port 1: remote 127.0.0.1:24002 is the port's own address", "port 1: remote 127.0.0.1:24001 is listed twice",
+                      " remotes 127.0.0.1:24001 127.0.0.1:24005",
                       "port 2 network 00000033 node 7e0000015dc3 ethernet ethernet-ii udp 127.0.0.1:24003 cost 6"
                       " remotes 192.0.2.10:258 switch false",
                       "route 000000aa port 2 next 020000000033 hops 1 ticks 6", "it.toml: 2 ports, no metrics_file"]),
@@ -612,8 +615,7 @@ CHECKED = [
     ("route", SHARED, [PORT_11, *REMARKS, "port 2 network 00000022 node 00000a010001 udp 10.1.0.1:2130 cost 1 peers 2",
                        "it.toml: 2 ports, no metrics_file"]),
     ("route", WIRES, ["port 1 network 00000022 node 020000000022 ethernet 802.2 udp 127.0.0.1:24002 cost 1"
-                      " remotes 127.0.0.1:24001 127.0.0.1:24002 127.0.0.1:24001",
-                      "port 1: remote 127.0.0.1:24002 is the port's own address", "port 1: remote 127.0.0.1:24001 is listed twice",
+                      " remotes 127.0.0.1:24001 127.0.0.1:24005",
                       "port 2 network 00000033 node 7e0000015dc3 ethernet ethernet-ii udp 127.0.0.1:24003 cost 6"
                       " remotes 192.0.2.10:258 switch false",
                       "it.toml: 2 ports, no metrics_file"]),

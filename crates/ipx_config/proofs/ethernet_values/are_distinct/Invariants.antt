@@ -1,6 +1,6 @@
 use Rattle.std.proofs.Common.{◌≡◌, drop}
 use Rattle.ipx_config.specs.EthernetValues.{are_places_distinct}
-use Rattle.ipx_config.proofs.ipxnet_fields.are_distinct.Given as goal
+use Rattle.ipx_config.proofs.ethernet_values.are_distinct.Given as goal
 
 -- a place is listed twice exactly if one of the remaining ones is
 abbrev pub invariant-loop-index : goal.invariant-loop-index
