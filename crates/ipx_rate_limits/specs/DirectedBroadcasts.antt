@@ -1,6 +1,6 @@
 -- Directed broadcasts: packets for all nodes of another network, or for a group of them. Defined by this
 -- project.
-use Rattle.std.specs.Prelude.{◌≡◌, ℕ, ◌%◌, ◌==◌, ◌&&◌, ◌||◌, Bool, true, not, List, Some, None, slice_get, slice_index}
+use Rattle.std.specs.Prelude.{◌≡◌, ℕ, ◌%◌, ◌==◌, ◌&&◌, ◌||◌, Bool, true, not, List, Some, None, nat_lt, slice_get, slice_index}
 use Rattle.ipx_wire.specs.Assigned.{local_network, netbios_propagation_type}
 use Rattle.ipx_wire.specs.Ipx.{BeginsWith, PacketView}
 use Rattle.ipx_wire.specs.declared.address.Address.{Address}
@@ -21,11 +21,11 @@ use Rattle.ipx_rate_limits.specs.PortBuckets.{has_groups}
 abbrev pub is_for_many : Bool → Node → Bool
 is_for_many groups node = is_node node broadcast || (groups && (slice_index node.0 0 % 2 == 1))
 
--- a packet that came by this port is for such a node of another network. Type 20 is excepted, because no router
--- forwards it this way
+-- a packet that came by this port is for such a node of another network, and can leave: fewer than 15 routers
+-- forwarded it. Type 20 is excepted, because no router forwards it this way
 abbrev pub is_directed : Port → Bool → IpxHeader → Bool
 is_directed arrived groups h =
-    not (h.kind == netbios_propagation_type) && is_for_many groups h.to.node
+    not (h.kind == netbios_propagation_type) && nat_lt h.hops 15 && is_for_many groups h.to.node
     && not (h.to.network.0 == local_network) && not (h.to.network.0 == arrived.network.0)
 
 -- bytes that came by this port are such a packet, and its network is that of one of these ports, by which it

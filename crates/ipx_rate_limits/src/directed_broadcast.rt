@@ -52,11 +52,12 @@ fn is_for_many(groups: bool, node: Node) -> bool
 }
 
 /// Whether a packet that came by this port is for all nodes of another network, or for a group of
-/// them if that network has groups.
+/// them if that network has groups, and fewer than 15 routers forwarded it, so that it can leave.
 fn is_directed(at: Port, groups: bool, header: &IpxHeader) -> bool
     ensures { result ≡ is_directed at groups header.now }
 {
     header.kind != packet_type::NETBIOS_PROPAGATION
+        && header.hops < 15
         && is_for_many(groups, header.to.node)
         && header.to.network != Network::LOCAL
         && header.to.network != at.network

@@ -164,8 +164,21 @@ fn hear_at(
     body: &[u8],
     now: u64,
 ) -> bool {
+    hear_after(ears, alloc, 0, from, to, body, now)
+}
+
+/// The same of a packet that this many routers forwarded.
+fn hear_after(
+    ears: &mut RateLimiter<Ears>,
+    alloc: Global,
+    hops: u8,
+    from: (usize, Network, u8),
+    to: Address,
+    body: &[u8],
+    now: u64,
+) -> bool {
     let header = IpxHeader {
-        hops: 0,
+        hops,
         kind: packet_type::UNKNOWN,
         to,
         from: Address {
@@ -468,6 +481,31 @@ fn what_is_no_directed_broadcast(rt: HostRuntime) -> Result<(), AllocError> {
         assert_eq!(rt; ears.core().heard, if is { 16 } else { 20 });
         assert_eq!(rt; ears.directed().count, if is { 4 } else { 0 });
     }
+    Ok(())
+}
+
+/// A packet that 15 routers forwarded cannot leave, so it takes no token of those that can.
+#[test]
+fn what_cannot_leave_takes_no_token(rt: HostRuntime) -> Result<(), AllocError> {
+    let to = every_node(AWAY, Socket(0x4002));
+    for hops in [15, 16, 255] {
+        let mut ears = ears(rt.alloc(), 0)?;
+        for _packet in 0..100 {
+            let from = (0, FAR, 9);
+            let _had = hear_after(&mut ears, rt.alloc(), hops, from, to, &[0; 8], 0);
+        }
+        assert_eq!(rt; ears.core().heard, 100);
+        assert_eq!(rt; ears.directed().count, 0);
+        from_afar(&mut ears, rt.alloc(), to, 17, 0);
+        assert_eq!(rt; ears.core().heard, 116);
+        assert_eq!(rt; ears.directed().count, 1);
+    }
+    let mut ears = ears(rt.alloc(), 0)?;
+    for _packet in 0..20 {
+        let _had = hear_after(&mut ears, rt.alloc(), 14, (0, FAR, 9), to, &[0; 8], 0);
+    }
+    assert_eq!(rt; ears.core().heard, 16);
+    assert_eq!(rt; ears.directed().count, 4);
     Ok(())
 }
 
