@@ -1,12 +1,17 @@
 -- What a router counts itself, and what its metrics contain. Defined by this project.
-use Rattle.std.specs.Prelude.{◌≡◌, ◌≤◌, ℕ, ◌+◌, ◌/◌, Option, Some, None, length}
+use Rattle.std.specs.Prelude.{◌≡◌, ◌≤◌, ℕ, ◌+◌, ◌/◌, List, Option, Some, None, length, slice_get}
 use Rattle.ipx_carrier.specs.Counting.{counted, raised}
+use Rattle.ipx_carrier.specs.Mapping.{ip_at}
 use Rattle.ipx_carrier.specs.OutcomeCounters.{outcomes_in}
 use Rattle.ipx_carrier.specs.declared.fault.RunFault.{RunFault}
 use Rattle.ipx_carrier.specs.declared.fault.RunFault.TheVariants.{Device, OutOfMemory}
+use Rattle.ipx_rate_limits.specs.declared.querier.Querier.{Querier}
+use Rattle.ipx_wire.specs.declared.address.Node.{Node}
 use Rattle.ipx_site.specs.SiteCore.{SiteCore}
 use Rattle.ipx_site.specs.declared.metrics.Metrics.{Metrics}
 use Rattle.ipx_site.specs.declared.router_counts.RouterCounts.{RouterCounts}
+use Rattle.ipx_site.specs.declared.router_ports.PortIndex.{PortIndex}
+use Rattle.ipx_site.specs.declared.router_ports.PortIndex.TheVariants.{Datagrams, Ethernet, IpxnetServer}
 use Rattle.ipx_carrier.specs.declared.datagrams.Datagrams as OfDevice
 use Rattle.ipx_ipxnet_ports.specs.declared.place_sockets.PlaceSockets as OfPlaces
 use Rattle.ipx_ipxnet_ports.specs.declared.sockets.ServerSockets.{ServerSockets}
@@ -45,6 +50,19 @@ AddsFaultsOfWork old new = (new.unmapped ≡ old.unmapped) × (new.device_faults
 abbrev pub CountsRound : Batch → RouterCounts → RouterCounts → Type 0
 CountsRound b old new = (worked : RouterCounts) × AddsFaultsOfWork old worked × (new ≡ with_batch b worked)
 
+-- the IP address of a node at a port. Only at an RFC 1234 port is it in the node: that of a station, or of a
+-- player, may begin with two zero bytes too
+abbrev pub node_ip : Option PortIndex → Node → Option (List ℕ)
+node_ip None node = None
+node_ip (Some (Datagrams place)) node = ip_at node
+node_ip (Some (Ethernet place)) node = None
+node_ip (Some (IpxnetServer place)) node = None
+
+-- that of who sent a query, if there was one
+abbrev pub querier_ip : List PortIndex → Option Querier → Option (List ℕ)
+querier_ip port_indices None = None
+querier_ip port_indices (Some who) = node_ip (slice_get port_indices who.port) who.node
+
 -- the metrics of a router at a time, in milliseconds since its start, without the counts that are logged.
 -- They come from its own counters, those of its core and those of its device: what it dropped, and how many
 -- datagrams the system took. The networks and services are those known at the last look
@@ -55,6 +73,7 @@ pub record AreMetrics {gd : OfDevice.Ghosts (SourceFilter UdpSockets)} {ge : OfS
   pub outcomes : f.outcomes ≡ core.core.core.core.outcomes
   pub last_table_full : f.last_table_full ≡ core.core.core.core.last.table_full
   pub rate_limited : f.rate_limited ≡ core.core.kept
+  pub rate_limited_ip : f.rate_limited_ip ≡ querier_ip ports.port_indices.items core.core.kept.last
   pub directed : f.directed ≡ core.core.directed
   pub source_drops : f.source_drops ≡ core.drops
   pub filtered : f.kept ≡ ports.datagrams.device.kept

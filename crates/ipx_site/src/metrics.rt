@@ -35,6 +35,8 @@ pub struct Metrics {
     pub kept: FilterDrops,
     /// The queries that came too often, and were dropped.
     pub rate_limited: QueryDrops,
+    /// The IP address of the sender of the last of these, if it came by an RFC 1234 port.
+    pub rate_limited_ip: Option<[u8; 4]>,
     /// The directed broadcasts over a limit, which were not forwarded.
     pub directed: DirectedDrops,
     /// The packets that failed a source check of the router.

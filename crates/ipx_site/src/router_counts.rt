@@ -4,22 +4,23 @@ ghost use Rattle.std.specs.Prelude.{◌≡◌, ◌≤◌, Some};
 ghost use Rattle.ipx_carrier.specs.Counting.{counted, raised};
 ghost use Rattle.ipx_carrier.specs.OutcomeCounters.{outcomes_in};
 ghost use Rattle.ipx_site.specs.IdleTime.{happened, happened_in, lost_in};
-ghost use Rattle.ipx_site.specs.RouterMetrics.{AreMetrics, no_counts, with_batch, with_memory_fault};
+ghost use Rattle.ipx_site.specs.RouterMetrics.{AreMetrics, no_counts, node_ip, querier_ip, with_batch, with_memory_fault};
 
 use crate::ethernet_totals::{in_other_encapsulations, unframed};
 use crate::ipxnet_totals::{busy, full, full_of_address, last_limited, rate_limited};
 use crate::metrics::Metrics;
 use crate::route_change_log::RouteChangeLog;
-use crate::router_ports::UdpRouterPorts;
+use crate::router_ports::{PortIndex, UdpRouterPorts};
 use crate::written_files::FileFault;
-use ipx_carrier::{Batch, OutcomeCounters, RunFault, saturating_increment};
+use ipx_carrier::{Batch, OutcomeCounters, RunFault, ip_of, saturating_increment};
 use ipx_ethernet_ports::EndSockets;
 use ipx_ipxnet_ports::PlaceSockets;
 use ipx_metrics::MeteredRouter;
-use ipx_rate_limits::RateLimiter;
+use ipx_rate_limits::{Querier, RateLimiter};
 use ipx_sockets::DropCount;
 use ipx_source_checks::SourceChecked;
 use ipx_static::WithStatics;
+use ipx_wire::Node;
 
 /// The counters that a running router keeps itself. Each saturates at the greatest u64.
 #[derive(Clone, Copy)]
@@ -37,6 +38,24 @@ fn heard_in(outcomes: &OutcomeCounters) -> u64
     ensures { result ≡ counted (outcomes_in outcomes.now) }
 {
     u64::try_from(outcomes.total()).unwrap_or(u64::MAX)
+}
+
+/// The IP address of a node at a port. Only at an RFC 1234 port is it in the node.
+fn node_ip(port_index: Option<PortIndex>, node: Node) -> Option<[u8; 4]>
+    ensures { result ≡ node_ip port_index node }
+{
+    match port_index {
+        Some(PortIndex::Datagrams(_)) => ip_of(node).ok(),
+        Some(PortIndex::Ethernet(_) | PortIndex::IpxnetServer(_)) | None => None,
+    }
+}
+
+/// The IP address of who sent a query, if it came by an RFC 1234 port.
+fn querier_ip(port_indices: &[PortIndex], last: Option<Querier>) -> Option<[u8; 4]>
+    ensures { result ≡ querier_ip port_indices.now last }
+{
+    let last = last?;
+    node_ip(port_indices.get(last.port).copied(), last.node)
 }
 
 /// How often the system refused a datagram or a frame.
@@ -133,6 +152,7 @@ impl RouterCounts {
             unmapped: self.unmapped,
             kept: device.kept(),
             rate_limited: core.core().kept(),
+            rate_limited_ip: querier_ip(ports.port_indices(), core.core().kept().last),
             directed: core.core().directed(),
             source_drops: core.drops(),
             refused: device.refused(),

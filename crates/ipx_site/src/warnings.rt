@@ -6,9 +6,8 @@ ghost use Rattle.ipx_sockets.specs.Moments.{counts_of, AreLoggedIfDue, IsDue, Is
 
 use crate::metrics::Metrics;
 use crate::written_files::FileFault;
-use ipx_carrier::ip_of;
 use ipx_metrics::LastDrop;
-use ipx_rate_limits::{DirectedDrops, Querier, QueryDrops};
+use ipx_rate_limits::DirectedDrops;
 use ipx_sockets::{FilterDrops, LastTime, Noun, ThrottledLog, Warning, next_of, tell_each};
 use log::Log;
 use std::io;
@@ -59,20 +58,21 @@ fn directed_warning(drops: DirectedDrops) -> Warning
     warning.with_last(drops.last.map(LastTime::Address))
 }
 
-/// Who sent a query, by IP address if its node is one, and by which port.
-fn querier(last: Querier) -> LastTime {
-    match ip_of(last.node) {
-        Ok(ip) => LastTime::IpAtPort(ip, last.port),
-        Err(_) => LastTime::NodeAtPort(last.node, last.port),
+/// Who sent the last query that came too often, by IP address if it has one, and by which port.
+fn querier(f: &Metrics) -> Option<LastTime> {
+    let last = f.rate_limited.last?;
+    match f.rate_limited_ip {
+        Some(ip) => Some(LastTime::IpAtPort(ip, last.port)),
+        None => Some(LastTime::NodeAtPort(last.node, last.port)),
     }
 }
 
 /// The warning about queries that came too often.
-fn query_warning(drops: QueryDrops) -> Warning
-    ensures { result.kept.count ≡ drops.count }
+fn query_warning(f: &Metrics) -> Warning
+    ensures { result.kept.count ≡ f.now.rate_limited.count }
 {
-    let warning = Warning::of_nobody(drops.count, Noun::QUERIES, "rate-limited");
-    warning.with_last(drops.last.map(querier))
+    let warning = Warning::of_nobody(f.rate_limited.count, Noun::QUERIES, "rate-limited");
+    warning.with_last(querier(f))
 }
 
 /// Who sent a response that was not learned whole.
@@ -174,7 +174,7 @@ fn warnings_in(f: &Metrics) -> [Warning; CAUSES]
         Warning::from(f.kept.unknown_senders, datagrams, "from unknown senders"),
         Warning::from(f.kept.spoofed, datagrams, "with a spoofed source node"),
         router_warning(f.kept),
-        query_warning(f.rate_limited),
+        query_warning(f),
         refused_warning(f),
         table_warning(f),
         Warning::of_nobody(f.queue_full, packets, "dropped: send queue full"),

@@ -45,6 +45,7 @@ pub const METRICS: Metrics = Metrics {
         count: 25,
         last: None,
     },
+    rate_limited_ip: None,
     directed: DirectedDrops {
         count: 32,
         last: None,

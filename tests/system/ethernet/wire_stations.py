@@ -21,6 +21,8 @@ UNKNOWN = "02000000ffff"
 # A group of stations, a network of which only forged packets tell, and how many packets go to the group: a port lets 16 pass at
 # once and 8 more each second.
 GROUP, FORGED, TO_GROUP, AT_ONCE, PER_SECOND = "010000000001", "00000077", 100, 16, 8
+# The node of a card of Novell, and how often it asks for all networks.
+ZEROS, ASKS = "00001b123456", 40
 OTHER_TYPES = [0x0800, 0x0806, 0x86dd, 0x8138, 0x0600, 0x05dd, 0x05ff]
 OTHER_LINKS = ["424203", "f0f003", "e00403", "e0e0af", "aaaa030000f88137", "aaaa030000000800"]
 
@@ -266,6 +268,21 @@ def check_groups(it):
     it.settle("those that pass go to each end of the wire")
 
 
+def check_queries(it):
+    """A station that asks for everything too often is told by its node, also if that begins with two zero bytes, as the node
+    of an IP address does."""
+    end = it.ends["802.3"][0]
+    port = end.port
+    packet = ipx(1, (port.network, port.node, RIP), (port.network, ZEROS, "4001"), ALL_ROUTES)
+    for _ in range(ASKS):
+        end.send(frame(port.kind, port.node, ZEROS, packet), "handed_on")
+    it.fence(end)
+    line = re.compile(r"\d+ (?:query|queries) rate-limited \(\d+ since the start\), the last from " + f"{ZEROS} on port {1 + it.wires_of.index(port)}$")
+    told = until(lambda: any(line.search(one) for one in it.router.process.said()), 15)
+    it.wires.check("a station whose node begins with zeros is told by its node", told,
+                   "" if told else str(it.router.process.said()[-3:]))
+
+
 def check_told(it, strangers):
     """What the router counts, and says."""
     wanted = {"ipx_frames_unknown_senders_total": strangers, 'ipx_filtered_total{reason="group_source"}': it.forged,
@@ -313,5 +330,6 @@ def check_stations(wires):
     check_hub(it, "802.2", False)
     check_groups(it)
     check_told(it, strangers)
+    check_queries(it)
     wires.check("the router goes on", not it.router.process.is_over())
     it.router.process.end()
