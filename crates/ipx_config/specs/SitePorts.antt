@@ -42,6 +42,11 @@ abbrev pub heard_at_port : Accept → List (List ℕ) → Option (List (List ℕ
 heard_at_port Any peers = None
 heard_at_port Peers peers = Some peers
 
+-- the senders that are treated as routers at a port: those that its file names, or otherwise its peers
+abbrev pub routers_at_port : Option (Vec (List ℕ) Global) → List (List ℕ) → List (List ℕ)
+routers_at_port None peers = peers
+routers_at_port (Some routers) peers = routers.items
+
 -- the network of a port, the IP addresses that it sends to, those that it accepts, and those of routers: as
 -- its file says, and as its access list says
 abbrev pub access_of : Rfc1234PortConfig → Access
@@ -49,5 +54,5 @@ access_of p = record {
   network = p.network;
   sends = Some p.peers.items;
   hears = heard_at_port p.accept p.peers.items;
-  routers = named p.routers;
+  routers = Some (routers_at_port p.routers p.peers.items);
 }

@@ -21,7 +21,7 @@ ghost use Rattle.ipx_site.specs.NewRouters.{CountsNothing, HasFilteredNothing, I
 ghost use Rattle.ipx_site.specs.RoutingRuns.{HasDoneNothing, KnowsNothing, RoutesWell};
 ghost use Rattle.ipx_site.specs.SiteMarks.{port_fds};
 ghost use Rattle.ipx_sockets.specs.AccessLists.{AccessListPorts, access_by};
-ghost use Rattle.ipx_config.specs.SitePorts.{access_of, heard_at_port, named, router_ports, site_peers, udp_ports};
+ghost use Rattle.ipx_config.specs.SitePorts.{access_of, heard_at_port, named, router_ports, routers_at_port, site_peers, udp_ports};
 ghost use Rattle.ipx_rate_limits.specs.TokenBuckets.{fresh_buckets};
 
 use crate::clients_file::ClientsFile;
@@ -211,13 +211,14 @@ fn port_hears(alloc: Global, port: &Rfc1234PortConfig) -> Result<Option<Vec<[u8;
     }
 }
 
-/// Which peers of a port are routers, if the file names them.
-fn port_routers(alloc: Global, port: &Rfc1234PortConfig) -> Result<Option<Vec<[u8; 4]>>, AllocError>
-    ensures { IfOk result (λ ips. named ips ≡ named port.now.routers) }
+/// Which senders are routers at a port: those that the file names, or otherwise its peers.
+fn port_routers(alloc: Global, port: &Rfc1234PortConfig) -> Result<Vec<[u8; 4]>, AllocError>
+    ensures { IfOk result (λ ips.
+        ips.items ≡ routers_at_port port.now.routers port.now.peers.items) }
 {
     match &port.routers {
-        Some(routers) => Ok(Some(Vec::from_slice(alloc, routers)?)),
-        None => Ok(None),
+        Some(routers) => Vec::from_slice(alloc, routers),
+        None => port_peers(alloc, port),
     }
 }
 
@@ -227,7 +228,7 @@ fn access_list_of(alloc: Global, port: &Rfc1234PortConfig) -> Result<AccessList,
 {
     let sends = Some(port_peers(alloc, port)?);
     let hears = port_hears(alloc, port)?;
-    let routers = port_routers(alloc, port)?;
+    let routers = Some(port_routers(alloc, port)?);
     Ok(AccessList {
         network: port.network,
         sends,

@@ -1,4 +1,4 @@
-"""A port whose file says which of its peers are routers, for `sites`."""
+"""A port whose file says which of its peers are routers, and one that accepts anybody, for `sites`."""
 import re
 import struct
 import time
@@ -9,12 +9,14 @@ from site_world import bound, node, port_table, until
 # A router between two networks; on the first a router that it names and a host, on the other one more.
 NEAR, FAR = "127.0.1.170", "127.0.1.173"
 NAMED, HOST, AWAY = "127.0.1.171", "127.0.1.172", "127.0.1.174"
-NAMING = [NEAR, FAR, NAMED, HOST, AWAY]
+# A third network, whose port accepts anybody and has a peer; somebody else sends to it too.
+OPEN, PEER, STRANGER = "127.0.1.213", "127.0.1.214", "127.0.1.215"
+NAMING = [NEAR, FAR, NAMED, HOST, AWAY, OPEN, PEER, STRANGER]
 NAME = "n1"
 EVERY_NODE = "f" * 12
 # A query of a host with another number for this network, two routes, two services, a packet of another network and two that
-# are handed on along this one.
-KEPT = 7
+# are handed on along this one; of the third network a route, a service and a packet of another network.
+KEPT = 10
 WRONG = "00000068"
 # The line of the first of these.
 TOLD = re.compile(r"\[WARN  ipx\] 1 datagram routed or RIP/SAP from a host not listed in routers \(1 since the start\), the last from "
@@ -25,11 +27,12 @@ def start_routers(sites):
     """Starts the router, and binds the three that speak to it."""
     text = (f'metrics_file = "{sites.world.path(NAME + ".prom")}"\n'
             + port_table("00000061", NEAR, sites.port, [NAMED, HOST]) + f'routers = ["{NAMED}"]\n'
-            + port_table("00000062", FAR, sites.port, [AWAY]) + "routers = []\n")
+            + port_table("00000062", FAR, sites.port, [AWAY]) + "routers = []\n"
+            + port_table("00000067", OPEN, sites.port, [PEER]) + 'accept = "any"\n')
     sites.world.write(f"{NAME}.toml", text)
     sites.start_router(NAME)
-    ends = {ip: bound(ip, sites.port) for ip in (NAMED, HOST, AWAY)}
-    until(lambda: len(sites.routers[NAME].said()) >= 2, 10)
+    ends = {ip: bound(ip, sites.port) for ip in (NAMED, HOST, AWAY, PEER, STRANGER)}
+    until(lambda: len(sites.routers[NAME].said()) >= 3, 10)
     return ends
 
 
@@ -50,10 +53,10 @@ def to_away(source, hops, body):
     return ipx(4, ("00000062", node(AWAY), "4002"), (*source, "4003"), body, hops)
 
 
-def sap_response(source, operation):
-    """A SAP response with one service, of a node of network 61."""
+def sap_response(source, operation, network="00000061"):
+    """A SAP response with one service, of a node of a network."""
     service = struct.pack(">H", 4) + b"SERVER".ljust(48, b"\0") + bytes.fromhex("000000660000000000014444" "0001")
-    return ipx(4, ("00000061", EVERY_NODE, "0452"), ("00000061", source, "0452"),
+    return ipx(4, (network, EVERY_NODE, "0452"), (network, source, "0452"),
                struct.pack(">H", operation) + service)
 
 
@@ -94,10 +97,36 @@ def pass_on(sites, ends):
                 sorted(came) == [b"\2\0", b"\2\1", b"\3\0", b"\3\1"], str(sorted(came)))
 
 
+def speak_openly(sites, ends):
+    """At the port that accepts anybody only its peer is a router. Somebody else tells a better route to the network of which
+    the peer tells, and a service, and passes on a packet: none of these is taken. Its own packets are."""
+    port, stranger = (OPEN, sites.port), node(STRANGER)
+    ends[PEER].sendto(rip_response("00000067", node(PEER), [(0x69, 3, 9)]), port)
+    ends[STRANGER].sendto(rip_response("00000067", stranger, [(0x69, 1, 1)]), port)
+    ends[STRANGER].sendto(sap_response(stranger, 2, "00000067"), port)
+    time.sleep(0.3)
+    ends[AWAY].sendto(ipx(4, ("00000069", "000000000001", "4002"), ("00000062", node(AWAY), "4003"), b"\x69"), (FAR, sites.port))
+    came = []
+    until(lambda: came.extend(bodies(ends[PEER])) or came, 2)
+    sites.check("at a port that accepts anybody a route of somebody who is no peer takes no traffic of a peer",
+                [came, bodies(ends[STRANGER])] == [[b"\x69"], []], str(came))
+    ends[STRANGER].sendto(to_away(("00000065", "000000000001"), 1, b"\4\0"), port)
+    for network in ("00000067", "00000000"):
+        ends[STRANGER].sendto(to_away((network, stranger), 0, bytes([5, int(network[-1])])), port)
+    ends[PEER].sendto(to_away(("00000065", "000000000001"), 1, b"\6\0"), port)
+    came = []
+    until(lambda: came.extend(bodies(ends[AWAY])) or len(came) >= 3, 2)
+    time.sleep(0.2)
+    came += bodies(ends[AWAY])
+    sites.check("what that one passes on does not arrive; its own packets do, and what the peer passes on",
+                sorted(came) == [b"\5\0", b"\5\7", b"\6\0"], str(sorted(came)))
+
+
 def check_routers(sites, ends):
     """All of it, but for the figures."""
     tell(sites, ends)
     pass_on(sites, ends)
+    speak_openly(sites, ends)
     for one in ends.values():
         one.close()
 
