@@ -122,9 +122,9 @@ pub fn listened_output_is_input()
 }
 
 /// The same by one clock, with premises that an operator can judge: nothing arrives except what
-/// hosts and routers sent, no id is given twice at one network and node, nothing that a host
-/// receives was sent by a host more than a second before, and no host gives 32,768 new units within
-/// any second.
+/// hosts and routers sent, no id is given twice at one network and node, all that a connection
+/// reads was sent by a host at most a second before, and no host gives 32,768 new units within any
+/// second.
 pub fn timely_input_is_read()
     ensures { (file : HostConfig) (to : Address) (input : Option (List ℕ)) (run : SendsByCalls file to input)
         (start last : TimedSite) (calls : List TimedCall) (host : ℕ)

@@ -23,15 +23,15 @@ use Rattle.spx_theory.specs.WorldStep.{Carried, WorldStep}
 use Rattle.theory_processes.specs.Course.{AtHost, AtRouter, Call, Course, DoesAtHost, DoesAtRouter, DoesCall, accepted_by, connections_after, handing, host_mail, host_outside, is_now_at, on_connection, on_network, releasing, router_mail, router_outside, taking}
 use Rattle.theory_processes.specs.HostCalls.{AsksAgain, Begins, ByACore, Closes, Dials, Fails, FromOutside, Gives, HandsIn, Hears, HostCall, Paces, Releases, Takes}
 use Rattle.theory_processes.specs.RouterCalls.{RouterCall}
-use Rattle.theory_processes.specs.Shows.{Agrees, AreParcels, IsParcel, Shows, injected_by, injected_in, sent_by, sent_in}
+use Rattle.theory_processes.specs.Shows.{Agrees, AreParcels, IsParcel, Lies, Shows, injected_by, injected_in, sent_by, sent_in}
 use Rattle.theory_processes.specs.Site.{Connection, Datagram, Site, connection_of}
-use Rattle.theory_processes.specs.Timely.{AreSpaced, DoesInTime, HearsSoon, HostHearsSoon, IsNewTimed, IsPassedOn, NewUnit, TimedCall, TimedSite, TimelyCourse, TimelyCoursesAreFresh, WasJustSent, further, given_at, itself, new_units, sent_moments, unit_of_host, unit_said, units_within, untimed}
-use Rattle.theory_processes.proofs.Doing.{After-host, core_does, host_does}
+use Rattle.theory_processes.specs.Timely.{AreSpaced, DoesInTime, HostReadsSoon, IsNewTimed, IsPassedOn, NewUnit, ReadsSoon, TimedCall, TimedSite, TimelyCourse, TimelyCoursesAreFresh, WasJustSent, further, given_at, is_read, itself, new_units, sent_moments, unit_of_host, unit_said, units_within, untimed}
+use Rattle.theory_processes.proofs.Doing.{After-host, core_does, host_does, inside}
 use Rattle.theory_processes.proofs.Hearing.{hears_parcel}
 use Rattle.theory_processes.proofs.Lists.{get_before, get_last, get_map, get_past, get_set_here, map_length}
 use Rattle.theory_processes.proofs.Notes.{gathered_more, gathered_none, took_on}
 use Rattle.theory_processes.proofs.Parcels.{HasMore, IsLetter, are_parcels_on, letter_of_parcel, lies_on}
-use Rattle.theory_processes.proofs.Saying.{AreAll, IsConnectionAt, IsGiving, IsHearing, IsSilent, Moves, SendsOne, silent_more, silent_none, unit_of}
+use Rattle.theory_processes.proofs.Saying.{AreAll, IsConnectionAt, IsGiving, IsHearing, IsSilent, Moves, SendsOne, silent_hearing, silent_more, silent_none, unit_of}
 use Rattle.theory_processes.proofs.Showing.{agrees_new, begun_new, new_world, reached_all}
 use Rattle.theory_processes.proofs.Steps.{After-by, StepLaws, no_deed, site_same, site_with, then}
 use Rattle.theory_processes.proofs.Timing.{AreUnits, IsFine, IsKept, IsLast, IsSentParcel, OneUnit, all_kept, all_read, are_units_length, are_units_more, are_units_on, carried_mark, count_few, fine_on, last_given, none_read, one_unit, seen_more, sent_grows, sent_parcel, units_within_more}
@@ -231,6 +231,19 @@ module _ (laws : StepLaws) (numbers : Numbers) (w : World) (s new : TimedSite) (
 
   -- ---- it hears
 
+  -- what no connection reads
+  overhears : (k : ℕ) (bytes : List ℕ) (now : ℕ) (answer : Arrived) (d : DoesAtHost k (Hears ByACore bytes now answer) s.site new.site) → is_read answer d.after ≡ false → new.units ≡ s.units ++ [] → new.sent_at ≡ s.sent_at ++ [] → Done
+  overhears k bytes now answer d not units sent_at =
+      let datagram : Datagram = on_network d.before.network bytes in
+      let lies : Lies (scene_of w) datagram = t.agrees.mail datagram d.heard in
+      let cs : List Connection = s.site.connections ++ accepted_by answer k in
+      let it = hears_parcel laws w s.site k d.before d.after datagram now answer t.agrees d.there lies refl d.does in
+      let m : Moves (scene_of w) (scene_of it.0) (IsHearing lies.0 (is_read answer d.after)) = it.1 in
+      let silent : Moves (scene_of w) (scene_of it.0) IsSilent = record { deeds = m.deeds; notes = m.notes; log = m.log; say = silent_hearing lies.0 (is_read answer d.after) m.notes m.say not } in
+      quiet_host k (Hears ByACore bytes now answer) d
+      (inside IsSilent w (set s.site.hosts k d.after) s.site.routers cs (s.site.mail ++ []) (s.site.sent ++ []) s.site.outside (it.0, silent, it.2)) units sent_at
+
+  -- what a connection reads
   hears : (k : ℕ) (bytes : List ℕ) (now : ℕ) (answer : Arrived) (d : DoesAtHost k (Hears ByACore bytes now answer) s.site new.site) → WasJustSent s at (on_network d.before.network bytes) → AreSpaced s
       → new.units ≡ s.units ++ [] → new.sent_at ≡ s.sent_at ++ [] → Done
   hears k bytes now answer d soon spaced units sent_at =
@@ -243,7 +256,8 @@ module _ (laws : StepLaws) (numbers : Numbers) (w : World) (s new : TimedSite) (
       let p : ℕ = b.parcel in
       let it = hears_parcel laws v s.site k d.before d.after datagram now answer b.agrees d.there (p, b.is) refl d.does in
       let x : World = it.0 in
-      let m : Moves (scene_of v) (scene_of x) (IsHearing p) = it.1 in
+      let read : Bool = is_read answer d.after in
+      let m : Moves (scene_of v) (scene_of x) (IsHearing p read) = it.1 in
       let agrees : Agrees x new.site = subst (Agrees x)
       (site_same new.site (set s.site.hosts k d.after) s.site.routers (s.site.connections ++ accepted_by answer k) (s.site.mail ++ []) (s.site.sent ++ []) s.site.outside
       d.hosts d.routers d.connections d.mail d.sent (d.outside ∙ append-nil s.site.outside)) it.2 in
@@ -254,14 +268,22 @@ module _ (laws : StepLaws) (numbers : Numbers) (w : World) (s new : TimedSite) (
       (λ j u there. let before = t.past j u there in let life : at ≤ soon.since + 1000 = soon.soon in omega (arith, before, life, order))
       spaced in
       let fine : Each (IsFine z.sent) (scan x.log).readings = λ j r there.
-      elim (all_read m.notes z p (subst (AreAll p) (sym m.say.1.gots_are) m.say.2) m.say.1.units_are b.there j r (ap (λ (g : Scan). slice_get g.readings j) (sym (scan_grows (IsHearing p) v x m)) ∙ there)) [
+      elim (all_read m.notes z p (subst (AreAll p) (sym m.say.1.gots_are) m.say.2) m.say.1.units_are b.there j r (ap (λ (g : Scan). slice_get g.readings j) (sym (scan_grows (IsHearing p read) v x m)) ∙ there)) [
         | inl was ↦ tv.fine j r was
         | inr here ↦ record {
           to = (let to = here.to in omega (arith, to));
           few = λ e. subst (λ n. times e (drop n (take r.to z.sent)) < 32768) (sym here.from) (subst (λ us. times e (drop (mark_of z p).units us) < 32768) (sym (ap (λ n. take n z.sent) here.to ∙ take_all (length z.sent) z.sent (omega arith))) (few e));
         }
       ] in
-      (x, goes_on (IsHearing p) v x s new tv m m.say.1.units_are m.say.1.sends_are agrees (host_keeps k (Hears ByACore bytes now answer) s.site new.site d) later (units ∙ append-nil s.units) (sent_at ∙ append-nil s.sent_at) fine)
+      (x, goes_on (IsHearing p read) v x s new tv m m.say.1.units_are m.say.1.sends_are agrees (host_keeps k (Hears ByACore bytes now answer) s.site new.site d) later (units ∙ append-nil s.units) (sent_at ∙ append-nil s.sent_at) fine)
+
+  hears_any : (k : ℕ) (bytes : List ℕ) (now : ℕ) (answer : Arrived) (d : DoesAtHost k (Hears ByACore bytes now answer) s.site new.site) → (is_read answer d.after ≡ true → WasJustSent s at (on_network d.before.network bytes)) → AreSpaced s
+      → new.units ≡ s.units ++ [] → new.sent_at ≡ s.sent_at ++ [] → Done
+  hears_any k bytes now answer d soon spaced units sent_at = when (is_read answer d.after) refl
+    where
+      when : (b : Bool) → is_read answer d.after ≡ b → Done
+      when true is = hears k bytes now answer d (soon is) spaced units sent_at
+      when false is = overhears k bytes now answer d is units sent_at
 
   -- ---- it gives
 
@@ -385,10 +407,10 @@ module _ (laws : StepLaws) (numbers : Numbers) (w : World) (s new : TimedSite) (
   host_silent : (k : ℕ) (call : HostCall) (d : DoesAtHost k call s.site new.site) → After-host w s.site k d.before call d.after
   host_silent k call d = host_does laws w s.site k d.before d.after t.agrees d.there call d.heard d.does
 
-  at_host : (k : ℕ) (call : HostCall) → DoesAtHost k call s.site new.site → HearsSoon (AtHost k call) s at → new.units ≡ s.units ++ new_units at (AtHost k call) new.site.hosts → new.sent_at ≡ s.sent_at ++ sent_moments at (AtHost k call)
+  at_host : (k : ℕ) (call : HostCall) (d : DoesAtHost k call s.site new.site) → HostReadsSoon call d.before d.after s at → new.units ≡ s.units ++ new_units at (AtHost k call) new.site.hosts → new.sent_at ≡ s.sent_at ++ sent_moments at (AtHost k call)
       → AreSpaced s → new.site.outside ≡ [] → Done
   at_host k (Hears ByACore bytes now answer) d soon units sent_at spaced inside =
-      hears k bytes now answer d (subst (λ o. HostHearsSoon (Hears ByACore bytes now answer) s at o) d.there soon) spaced units sent_at
+      hears_any k bytes now answer d soon spaced units sent_at
   at_host k (Hears FromOutside bytes now answer) d soon units sent_at spaced inside = absurd (not_empty s.site.outside (on_network d.before.network bytes) (sym d.outside ∙ inside))
   at_host k (Gives now given) d soon units sent_at spaced inside = gives k now given d units sent_at
   at_host k (Dials socket to buffers now id) d soon units sent_at spaced inside = quiet_host k (Dials socket to buffers now id) d (host_silent k (Dials socket to buffers now id) d) units sent_at
@@ -401,7 +423,7 @@ module _ (laws : StepLaws) (numbers : Numbers) (w : World) (s new : TimedSite) (
   at_host k (Begins socket buffers) d soon units sent_at spaced inside = quiet_host k (Begins socket buffers) d (host_silent k (Begins socket buffers) d) units sent_at
   at_host k Fails d soon units sent_at spaced inside = quiet_host k Fails d (host_silent k Fails d) units sent_at
 
-  call_of : (call : Call) → DoesCall call s.site new.site → HearsSoon call s at → new.units ≡ s.units ++ new_units at call new.site.hosts → new.sent_at ≡ s.sent_at ++ sent_moments at call → AreSpaced s → new.site.outside ≡ [] → Done
+  call_of : (call : Call) (d : DoesCall call s.site new.site) → ReadsSoon call s new.site d at → new.units ≡ s.units ++ new_units at call new.site.hosts → new.sent_at ≡ s.sent_at ++ sent_moments at call → AreSpaced s → new.site.outside ≡ [] → Done
   call_of (AtHost k call) d soon units sent_at spaced inside = at_host k call d soon units sent_at spaced inside
   call_of (AtRouter r call) d soon units sent_at spaced inside = quiet_router r call d units sent_at
 

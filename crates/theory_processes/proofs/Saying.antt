@@ -1,7 +1,7 @@
 -- What entries say of new units, of packets that ends read, and of packets that they sent; and scenes whose log grew by
 -- such entries.
-use Rattle.std.proofs.Common.{◌≡◌, ◌+◌, ◌⊎◌, ℕ, List, [], ◌∷◌, ◌++◌, Option, Some, None, refl, ◌∙◌, ap}
-use Rattle.std.specs.Prelude.{Result, Ok, Err, slice_get}
+use Rattle.std.proofs.Common.{◌≡◌, ◌+◌, ◌⊎◌, ℕ, Bool, true, false, List, [], ◌∷◌, ◌++◌, Option, Some, None, refl, ◌∙◌, ap, subst}
+use Rattle.std.specs.Prelude.{Result, Ok, Err, is_some, slice_get}
 use Rattle.ipx_carrier.specs.Turns.{Given}
 use Rattle.spx_link.specs.declared.outgoing.Sent.{Sent}
 use Rattle.spx_link.specs.declared.received.Received.{Received}
@@ -22,6 +22,7 @@ use Rattle.spx_theory.specs.Scene.{Scene}
 use Rattle.spx_theory.specs.World.{HostState, ParcelView, end_at}
 use Rattle.theory_processes.specs.Shows.{sent_by, sent_in}
 use Rattle.theory_processes.specs.Site.{Connection}
+use Rattle.theory_processes.specs.Timely.{is_read}
 use Rattle.theory_processes.proofs.Notes.{gathered_more}
 
 -- the end that sends a unit for the first time
@@ -74,45 +75,51 @@ silent_whole (Err f) who = silent_none
 pub silent_take : (a : Result TakenView EndFault) (u : Option SpxUnit) (who : ℕ) → IsSilent (unit_notes a u who ++ whole_notes a who)
 silent_take a u who = silent_more (unit_notes a u who) (whole_notes a who) (silent_unit a u who) (silent_whole a who)
 
--- ---- a parcel is read, and no other
+-- ---- a parcel is read, and no other; or none is
 
 abbrev pub AreAll : ℕ → List ℕ → Type 0
 AreAll p [] = Unit {0}
 AreAll p (q ∷ qs) = (q ≡ p) × AreAll p qs
 
-abbrev pub IsHearing : ℕ → List Note → Type 0
-IsHearing p ns = (gots : List ℕ) × Says [] gots [] ns × AreAll p gots
+abbrev pub IsHearing : ℕ → Bool → List Note → Type 0
+IsHearing p read ns = (gots : List ℕ) × Says [] gots [] ns × AreAll p gots × (read ≡ false → gots ≡ [])
 
-hearing_none : (p : ℕ) → IsHearing p []
-hearing_none p = ([], silent_none, tt)
+pub silent_hearing : (p : ℕ) (read : Bool) (ns : List Note) → IsHearing p read ns → read ≡ false → IsSilent ns
+silent_hearing p read ns h not = subst (λ gots. Says [] gots [] ns) (h.3 not) h.1
 
-hearing_read : (r : Received) (who parcel : ℕ) → IsHearing parcel (notes_of r who parcel)
-hearing_read Receiveds.Joined who parcel = (parcel ∷ [], record { units_are = refl; gots_are = refl; sends_are = refl }, (refl, tt))
-hearing_read Receiveds.Kept who parcel = (parcel ∷ [], record { units_are = refl; gots_are = refl; sends_are = refl }, (refl, tt))
-hearing_read Receiveds.Repeat who parcel = (parcel ∷ [], record { units_are = refl; gots_are = refl; sends_are = refl }, (refl, tt))
-hearing_read Receiveds.Ahead who parcel = (parcel ∷ [], record { units_are = refl; gots_are = refl; sends_are = refl }, (refl, tt))
-hearing_read Receiveds.OverAllocation who parcel = (parcel ∷ [], record { units_are = refl; gots_are = refl; sends_are = refl }, (refl, tt))
-hearing_read Receiveds.System who parcel = (parcel ∷ [], record { units_are = refl; gots_are = refl; sends_are = refl }, (refl, tt))
-hearing_read Receiveds.PeerEnded who parcel = (parcel ∷ [], record { units_are = refl; gots_are = refl; sends_are = refl }, (refl, tt))
-hearing_read Receiveds.Confirmed who parcel = (parcel ∷ [], record { units_are = refl; gots_are = refl; sends_are = refl }, (refl, tt))
-hearing_read Receiveds.Stranger who parcel = hearing_none parcel
+hearing_none : (p : ℕ) (read : Bool) → IsHearing p read []
+hearing_none p read = ([], silent_none, tt, λ not. refl)
 
-hearing_by : (o : Option ℕ) (r : Received) (parcel : ℕ) → IsHearing parcel (read_notes o r parcel)
-hearing_by None r parcel = hearing_none parcel
+hearing_one : (p : ℕ) (ns : List Note) → Says [] (p ∷ []) [] ns → IsHearing p true ns
+hearing_one p ns says = (p ∷ [], says, (refl, tt), λ not. absurd (cc not))
+
+hearing_read : (r : Received) (who parcel : ℕ) → IsHearing parcel true (notes_of r who parcel)
+hearing_read Receiveds.Joined who parcel = hearing_one parcel (notes_of Receiveds.Joined who parcel) (record { units_are = refl; gots_are = refl; sends_are = refl })
+hearing_read Receiveds.Kept who parcel = hearing_one parcel (notes_of Receiveds.Kept who parcel) (record { units_are = refl; gots_are = refl; sends_are = refl })
+hearing_read Receiveds.Repeat who parcel = hearing_one parcel (notes_of Receiveds.Repeat who parcel) (record { units_are = refl; gots_are = refl; sends_are = refl })
+hearing_read Receiveds.Ahead who parcel = hearing_one parcel (notes_of Receiveds.Ahead who parcel) (record { units_are = refl; gots_are = refl; sends_are = refl })
+hearing_read Receiveds.OverAllocation who parcel = hearing_one parcel (notes_of Receiveds.OverAllocation who parcel) (record { units_are = refl; gots_are = refl; sends_are = refl })
+hearing_read Receiveds.System who parcel = hearing_one parcel (notes_of Receiveds.System who parcel) (record { units_are = refl; gots_are = refl; sends_are = refl })
+hearing_read Receiveds.PeerEnded who parcel = hearing_one parcel (notes_of Receiveds.PeerEnded who parcel) (record { units_are = refl; gots_are = refl; sends_are = refl })
+hearing_read Receiveds.Confirmed who parcel = hearing_one parcel (notes_of Receiveds.Confirmed who parcel) (record { units_are = refl; gots_are = refl; sends_are = refl })
+hearing_read Receiveds.Stranger who parcel = hearing_none parcel true
+
+hearing_by : (o : Option ℕ) (r : Received) (parcel : ℕ) → IsHearing parcel true (read_notes o r parcel)
+hearing_by None r parcel = hearing_none parcel true
 hearing_by (Some who) r parcel = hearing_read r who parcel
 
-hearing_heard : (here : List (ℕ × ℕ)) (o : Option ℕ) (r : Received) (parcel : ℕ) → IsHearing parcel (heard_notes here o r parcel)
-hearing_heard here None r parcel = hearing_none parcel
+hearing_heard : (here : List (ℕ × ℕ)) (o : Option ℕ) (r : Received) (parcel : ℕ) → IsHearing parcel (is_some o) (heard_notes here o r parcel)
+hearing_heard here None r parcel = hearing_none parcel false
 hearing_heard here (Some id) r parcel = hearing_by (end_at here id) r parcel
 
-pub hearing_arrival : (a : Arrived) (s : HostState) (count parcel : ℕ) → IsHearing parcel (arrival_notes a s count parcel)
-hearing_arrival (Arriveds.Bad f) s count parcel = hearing_none parcel
-hearing_arrival Arriveds.NotOurs s count parcel = hearing_none parcel
-hearing_arrival (Arriveds.BadSpx f) s count parcel = hearing_none parcel
-hearing_arrival Arriveds.NoListener s count parcel = hearing_none parcel
-hearing_arrival Arriveds.NoRoom s count parcel = hearing_none parcel
-hearing_arrival Arriveds.Stranger s count parcel = hearing_none parcel
-hearing_arrival (Arriveds.Accepted id) s count parcel = (parcel ∷ [], record { units_are = refl; gots_are = refl; sends_are = refl }, (refl, tt))
+pub hearing_arrival : (a : Arrived) (s : HostState) (count parcel : ℕ) → IsHearing parcel (is_read a s.endpoint) (arrival_notes a s count parcel)
+hearing_arrival (Arriveds.Bad f) s count parcel = hearing_none parcel false
+hearing_arrival Arriveds.NotOurs s count parcel = hearing_none parcel false
+hearing_arrival (Arriveds.BadSpx f) s count parcel = hearing_none parcel false
+hearing_arrival Arriveds.NoListener s count parcel = hearing_none parcel false
+hearing_arrival Arriveds.NoRoom s count parcel = hearing_none parcel false
+hearing_arrival Arriveds.Stranger s count parcel = hearing_none parcel false
+hearing_arrival (Arriveds.Accepted id) s count parcel = hearing_one parcel (arrival_notes (Arriveds.Accepted id) s count parcel) (record { units_are = refl; gots_are = refl; sends_are = refl })
 hearing_arrival (Arriveds.Link id r) s count parcel = hearing_heard s.here s.endpoint.heard r parcel
 
 -- ---- an end of a host sends a packet, or none does

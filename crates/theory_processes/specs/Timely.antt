@@ -1,11 +1,13 @@
--- A course of calls by one clock. What a host receives was sent by some host at most a second before, and no host
+-- A course of calls by one clock. What a connection reads was sent by some host at most a second before, and no host
 -- sends too many units within a second. So what is read is recent, and nothing but this is assumed of moments. The
 -- entry points are `TimelyCourse` and `TimelyCoursesAreFresh`.
-use Rattle.std.specs.Prelude.{ℕ, ◌≡◌, ◌<◌, ◌≤◌, ◌+◌, ◌==◌, ◌&&◌, Bool, true, false, List, [], ◌∷◌, ◌++◌, map, Option, None, Some, nat_le, slice_get, if◌then◌else◌}
+use Rattle.std.specs.Prelude.{ℕ, ◌≡◌, ◌<◌, ◌≤◌, ◌+◌, ◌==◌, ◌&&◌, Bool, true, false, List, [], ◌∷◌, ◌++◌, map, Option, None, Some, is_some, nat_le, slice_get, if◌then◌else◌}
 use Rattle.ipx_wire.specs.declared.address.Network.{Network}
 use Rattle.spx_link.specs.declared.outgoing.Sent.{Sent}
 use Rattle.spx_link.specs.declared.outgoing.Sent.TheVariants as Sents
 use Rattle.spx_messages.specs.EndpointView.{EndpointView}
+use Rattle.spx_messages.specs.declared.arrived.Arrived.{Arrived}
+use Rattle.spx_messages.specs.declared.arrived.Arrived.TheVariants as Arriveds
 use Rattle.spx_theory.specs.Deeds.{Reached}
 use Rattle.spx_theory.specs.PacketsOnWay.{IsOneOn}
 use Rattle.spx_theory.specs.Peers.{IsFresh}
@@ -82,7 +84,7 @@ abbrev pub new_units : ℕ → Call → List EndpointView → List NewUnit
 new_units at (AtHost host call) hosts = unit_given host at call hosts
 new_units at (AtRouter router call) hosts = []
 
--- ---- what a host receives
+-- ---- what a connection reads
 
 -- a datagram that is this one, or what routers made of it: each adds a hop, and sends it on some network
 pub data IsPassedOn (first : Datagram) : Datagram → Type 0 where
@@ -104,24 +106,31 @@ abbrev pub ComesSoon : Source → TimedSite → ℕ → Datagram → Type 0
 ComesSoon ByACore s at d = WasJustSent s at d
 ComesSoon FromOutside s at d = Unit {0}
 
-abbrev pub HostHearsSoon : HostCall → TimedSite → ℕ → Option EndpointView → Type 0
-HostHearsSoon (Hears source bytes now answer) s at None = Unit {0}
-HostHearsSoon (Hears source bytes now answer) s at (Some e) = ComesSoon source s at (on_network e.network bytes)
-HostHearsSoon call s at e = Unit {0}
+-- an answer of an endpoint, which then is this: a connection read the datagram, or was made for it. A request that
+-- comes again is answered, and not read
+abbrev pub is_read : Arrived → EndpointView → Bool
+is_read (Arriveds.Accepted id) after = true
+is_read (Arriveds.Link id r) after = is_some after.heard
+is_read answer after = false
 
--- routers are free: their time is a part of a datagram's way
-abbrev pub HearsSoon : Call → TimedSite → ℕ → Type 0
-HearsSoon (AtHost host call) s at = HostHearsSoon call s at (slice_get s.site.hosts host)
-HearsSoon (AtRouter router call) s at = Unit {0}
+abbrev pub HostReadsSoon : HostCall → (before after : EndpointView) → TimedSite → ℕ → Type 0
+HostReadsSoon (Hears source bytes now answer) before after s at =
+    is_read answer after ≡ true → ComesSoon source s at (on_network before.network bytes)
+HostReadsSoon call before after s at = Unit {0}
+
+-- routers are free: their time is a part of a datagram's way. So is what no connection reads
+abbrev pub ReadsSoon : (call : Call) (old : TimedSite) (new : Site) → DoesCall call old.site new → ℕ → Type 0
+ReadsSoon (AtHost host call) old new does at = HostReadsSoon call does.before does.after old at
+ReadsSoon (AtRouter router call) old new does at = Unit {0}
 
 -- ---- a course by the clock
 
--- a call that comes no earlier than the one before, and nothing that it receives is older than a second
+-- a call that comes no earlier than the one before, and nothing that a connection reads is older than a second
 pub record DoesInTime (t : TimedCall) (old new : TimedSite) : Type 0 where
   pub does : DoesCall t.call old.site new.site
   pub order : old.now ≤ t.at
   pub now : new.now ≡ t.at
-  pub soon : HearsSoon t.call old t.at
+  pub soon : ReadsSoon t.call old new.site does t.at
   pub sent_at : new.sent_at ≡ old.sent_at ++ sent_moments t.at t.call
   pub units : new.units ≡ old.units ++ new_units t.at t.call new.site.hosts
 
