@@ -1,5 +1,5 @@
 -- What a datagram, a poll and whole turns of the core of a host do, as calls.
-use Rattle.std.proofs.Common.{◌≡◌, ◌+◌, ◌⊎◌, ℕ, List, [], ◌∷◌, ◌++◌, length, Option, None, Some, refl, sym, ◌∙◌, inl, inr, ap, subst}
+use Rattle.std.proofs.Common.{◌≡◌, ◌≤◌, ◌+◌, ◌⊎◌, ℕ, List, [], ◌∷◌, ◌++◌, length, Option, None, Some, refl, sym, ◌∙◌, inl, inr, ap, subst, arith}
 use Rattle.std.specs.Prelude.{All, flat_map}
 use Rattle.std.proofs.lemmas.Grind.{flat_map-append}
 use Rattle.std.proofs.lemmas.List.{append-nil}
@@ -180,7 +180,12 @@ turns (turn ∷ course) old new t =
 
 -- what was read is what the ports gave before the fault
 abbrev pub ReadsBefore : Turn → PacedHostCore → PacedHostCore → Type 0
-ReadsBefore t old new = (received lost : List (List ℕ)) × (answers t.answers ≡ received ++ lost) × MakesCalls old new received t.packets
+ReadsBefore t old new = (received lost : List (List ℕ)) × (answers t.answers ≡ received ++ lost) × (length lost ≤ 1) × MakesCalls old new received t.packets
+
+-- at the port the device failed, or memory ran out for one datagram
+few : (now port : ℕ) (last : List Reception) (fault : RunFault) (old new : PacedHostCore) → FailsAtPort hear_out_of_memory now port last fault old new → length (answers last) ≤ 1
+few now port last Device old new f = subst (λ rs. length (answers rs) ≤ 1) (sym f.0) (omega arith)
+few now port last OutOfMemory old new f = subst (λ rs. length (answers rs) ≤ 1) (sym f.1) (omega arith)
 
 failed : (now port : ℕ) (last : List Reception) (fault : RunFault) (old new : PacedHostCore) → FailsAtPort hear_out_of_memory now port last fault old new → MakesCalls old new [] []
 failed now port last Device old new f = nothing old new f.1
@@ -198,6 +203,7 @@ faults ways t sent fault old new b = elim b [
     answers hearing.0,
     answers hearing.1,
     ap answers hearing.3 ∙ flat_map-append (λ (r : Reception). answer_in (λ b. b) r.bytes) hearing.0 hearing.1,
+    few t.moment (length hearing.0) hearing.1 fault hearing.2 new hearing.6,
     subst (λ rs. MakesCalls old new rs t.packets) (append-nil (answers hearing.0))
         (subst (λ ps. MakesCalls old new (answers hearing.0 ++ []) ps) (sym hearing.7)
         (after old hearing.2 new (answers hearing.0) [] [] [] (all_heard t.moment 0 hearing.0 old hearing.2 hearing.5) (failed t.moment (length hearing.0) hearing.1 fault hearing.2 new hearing.6))),
@@ -206,6 +212,7 @@ faults ways t sent fault old new b = elim b [
     answers t.answers,
     [],
     sym (append-nil (answers t.answers)),
+    omega arith,
     subst (λ rs. MakesCalls old new rs t.packets) (append-nil (answers t.answers))
         (after old sending.1 new (answers t.answers) [] [] t.packets (all_heard t.moment 0 t.answers old sending.1 sending.2) (failed_after t.moment ways t.packets sent fault sending.1 new sending.3)),
   )
@@ -221,5 +228,5 @@ pub host_turn : {K : Type 0} (drives : K → Turn → K → Type 0) (peers : Pee
     → TakesHostTurn around around' drives peers old new turn → Made old new
 host_turn drives peers around around' old new turn t = elim t [
   | inl whole ↦ (answers whole.0.answers, whole.0.packets, a_turn whole.0 old new whole.1)
-  | inr part ↦ let f : ReadsBefore part.0 old new = faults (by_ip peers) part.0 part.1 OutOfMemory old new part.2 in (f.0, part.0.packets, f.3)
+  | inr part ↦ let f : ReadsBefore part.0 old new = faults (by_ip peers) part.0 part.1 OutOfMemory old new part.2 in (f.0, part.0.packets, f.4)
 ]

@@ -1,7 +1,7 @@
 //! Each turn of the core of `ipx send` and of `ipx listen`, and what they do between turns, is a
 //! list of calls of a host.
 
-ghost use Rattle.std.specs.Prelude.{◌≡◌, ◌∷◌, ◌++◌, ℕ, IfSome, List, Option, [], None};
+ghost use Rattle.std.specs.Prelude.{◌≡◌, ◌≤◌, ◌∷◌, ◌++◌, ℕ, IfSome, List, Option, [], None, length};
 ghost use Rattle.std.specs.Io.KnownBytes.{Appends};
 ghost use Rattle.ipx_wire.specs.declared.address.Address.{Address};
 ghost use Rattle.spx_messages.specs.EndpointView.{EndpointView, held_at};
@@ -71,7 +71,8 @@ pub fn work_between_turns_is_calls()
 {}
 
 /// Turns of a host over a device are calls of its endpoint, which received and gave the same, in
-/// the same order. So is a turn that a fault ends: what it read is what the ports gave before.
+/// the same order. So is a turn that a fault ends: what it read is what its port gave before, but at
+/// most one datagram, for which memory ran out.
 pub fn paced_turns_are_calls()
     ensures turns { (course : List Turn) (old new : PacedHostCore)
         → Turns hears gives 1 course old new
@@ -80,7 +81,7 @@ pub fn paced_turns_are_calls()
         (old new : PacedHostCore)
         → FailsMidTurn hears hear_out_of_memory gives next_out_of_memory 1 ways t sent fault old new
         → (received lost : List (List ℕ)) × (answers_in (λ port bytes. bytes) t.answers ≡ received ++ lost)
-        × MakesCalls old new received t.packets }
+        × (length lost ≤ 1) × MakesCalls old new received t.packets }
 {}
 
 /// Take a run of `ipx send` that ended with status 0 among the calls of any hosts and routers.

@@ -1,5 +1,5 @@
 -- A batch of turns over ports, as calls on the core of `ipx route`.
-use Rattle.std.proofs.Common.{◌≡◌, ℕ, List, [], ◌∷◌, ◌++◌, Option, None, Some, refl, sym, ◌∙◌, ap, subst}
+use Rattle.std.proofs.Common.{◌≡◌, ◌≤◌, ℕ, List, [], ◌∷◌, ◌++◌, length, Option, None, Some, refl, sym, ◌∙◌, ap, subst, arith}
 use Rattle.std.proofs.lemmas.Grind.{flat_map-append}
 use Rattle.std.proofs.lemmas.List.{append-nil, append_assoc}
 use Rattle.ipx_carrier.specs.Device.{Reception}
@@ -36,12 +36,13 @@ module _ {K S A : Type 0} (tells : K → ℕ → K → Type 0) (receives : S →
     pub lost : Ins
     pub are : answers (received_of turns) ≡ received ++ lost
     pub none : turns ≡ [] → lost ≡ []
+    pub few : length lost ≤ 1
     pub calls : Calls x y received (packets_of turns)
     pub end : EndBroken receives sends fails_to_receive fails_to_send turns d e
 
   broken : (fault : Option RunFault) (d e : S) (k l : K) (x y : SiteCore)
       → EndsBy SiteHears SiteHearOutOfMemory SiteGives SiteNextOutOfMemory tells receives sends fails_to_receive fails_to_send filtered marked ports buffer_size ways fault d e k l x y → Broken d e x y
-  broken None d e k l x y b = record { turns = []; received = []; lost = []; are = refl; none = λ same. refl; calls = nothing x y b.2; end = b.0 }
+  broken None d e k l x y b = record { turns = []; received = []; lost = []; are = refl; none = λ same. refl; few = omega arith; calls = nothing x y b.2; end = b.0 }
   broken (Some f) d e k l x y b =
       let t : Turn = b.1.0 in
       let part = faults ports ways t b.1.1 f x y b.1.2 in
@@ -51,7 +52,8 @@ module _ {K S A : Type 0} (tells : K → ℕ → K → Type 0) (receives : S →
         lost = part.1;
         are = ap answers (append-nil t.answers) ∙ part.2;
         none = λ same. absurd (cc same);
-        calls = subst (λ ps. Calls x y part.0 ps) (sym (append-nil t.packets)) part.3;
+        few = part.3;
+        calls = subst (λ ps. Calls x y part.0 ps) (sym (append-nil t.packets)) part.4;
         end = (refl, f, b.1.5, b.1.6, b.1.7);
       }
 
@@ -63,6 +65,7 @@ module _ {K S A : Type 0} (tells : K → ℕ → K → Type 0) (receives : S →
     pub lost : Ins
     pub are : answers (received_of (first ++ last)) ≡ received ++ lost
     pub none : last ≡ [] → lost ≡ []
+    pub few : length lost ≤ 1
     pub calls : Calls x y received (packets_of (first ++ last))
     pub take : PortsTakeTurns receives sends fails_to_receive fails_to_send first last d e
 
@@ -79,6 +82,7 @@ module _ {K S A : Type 0} (tells : K → ℕ → K → Type 0) (receives : S →
         received = before ++ r.received;
         lost = r.lost;
         none = r.none;
+        few = r.few;
         are = ap answers (flat_map-append (λ (t : Turn). t.answers) w.turns r.turns) ∙ flat_map-append (λ (q : Reception). answer_in (numbered q.port) q.bytes) (received_of w.turns) (received_of r.turns)
             ∙ ap (λ xs. before ++ xs) r.are ∙ sym (append_assoc before r.received r.lost);
         calls = subst (λ ps. Calls x y (before ++ r.received) ps) (sym (flat_map-append (λ (t : Turn). t.packets) w.turns r.turns)) (after x z y before r.received (packets_of w.turns) (packets_of r.turns) w.calls r.calls);

@@ -35,6 +35,7 @@ a_round old new t =
       ports = (t.turns.0, (r.0, r.3, r.7, batch.take), t.turns.2);
       lost = batch.lost;
       lost_at_fault = batch.none;
+      at_most_one = batch.few;
       heard = batch.are ∙ ap (λ xs. xs ++ batch.lost) (sym all.2);
       gave = all.3;
     }

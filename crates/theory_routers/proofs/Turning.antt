@@ -1,5 +1,5 @@
 -- Turns of the core of `ipx route` over ports are calls of it.
-use Rattle.std.proofs.Common.{◌≡◌, ◌+◌, ℕ, List, [], ◌∷◌, ◌++◌, length, Option, None, Some, refl, sym, ◌∙◌, inl, inr, ap, subst}
+use Rattle.std.proofs.Common.{◌≡◌, ◌≤◌, ◌+◌, ℕ, List, [], ◌∷◌, ◌++◌, length, Option, None, Some, refl, sym, ◌∙◌, inl, inr, ap, subst, arith}
 use Rattle.std.specs.Prelude.{flat_map}
 use Rattle.std.proofs.lemmas.Grind.{flat_map-append}
 use Rattle.std.proofs.lemmas.List.{append-nil}
@@ -86,7 +86,12 @@ turns ports (turn ∷ course) old new t = turn_more turn course old t.0 new (a_t
 
 -- what was received is what the ports gave before the fault
 abbrev pub ReceivedBefore : Turn → SiteCore → SiteCore → Type 0
-ReceivedBefore t old new = (received lost : Ins) × (answers t.answers ≡ received ++ lost) × Calls old new received t.packets
+ReceivedBefore t old new = (received lost : Ins) × (answers t.answers ≡ received ++ lost) × (length lost ≤ 1) × Calls old new received t.packets
+
+-- at the last port the device failed, or memory ran out for one datagram
+few : (now port : ℕ) (last : List Reception) (fault : RunFault) (old new : SiteCore) → FailsAtPort SiteHearOutOfMemory now port last fault old new → length (answers last) ≤ 1
+few now port last Device old new f = subst (λ rs. length (answers rs) ≤ 1) (sym f.0) (omega arith)
+few now port last OutOfMemory old new f = subst (λ rs. length (answers rs) ≤ 1) (sym f.1) (omega arith)
 
 failed : (now port : ℕ) (last : List Reception) (fault : RunFault) (old new : SiteCore) → FailsAtPort SiteHearOutOfMemory now port last fault old new → Calls old new [] []
 failed now port last Device old new f = nothing old new f.1
@@ -105,6 +110,7 @@ faults ports ways t sent fault old new b = elim b [
     answers hearing.0,
     answers hearing.1,
     ap answers hearing.3 ∙ flat_map-append (λ (r : Reception). answer_in (numbered r.port) r.bytes) hearing.0 hearing.1,
+    few t.moment (length hearing.0) hearing.1 fault hearing.2 new hearing.6,
     subst (λ rs. Calls old new rs t.packets) (append-nil (answers hearing.0))
         (subst (λ ps. Calls old new (answers hearing.0 ++ []) ps) (sym hearing.7)
         (after old hearing.2 new (answers hearing.0) [] [] [] (all_heard t.moment 0 hearing.0 old hearing.2 hearing.5) (failed t.moment (length hearing.0) hearing.1 fault hearing.2 new hearing.6))),
@@ -113,6 +119,7 @@ faults ports ways t sent fault old new b = elim b [
     answers t.answers,
     [],
     sym (append-nil (answers t.answers)),
+    omega arith,
     subst (λ rs. Calls old new rs t.packets) (append-nil (answers t.answers))
         (after old sending.1 new (answers t.answers) [] [] t.packets (all_heard t.moment 0 t.answers old sending.1 sending.2) (failed_after t.moment ways t.packets sent fault sending.1 new sending.3)),
   )

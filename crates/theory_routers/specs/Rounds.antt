@@ -1,6 +1,6 @@
 -- The rounds of `ipx route`, as calls on its core. The entry points are `RoundsAreCalls`, `RunsAreCalls`,
 -- `RoutesByCalls` and `StartedCoresAreNew`. Defined by this project.
-use Rattle.std.specs.Prelude.{ℕ, ◌≡◌, ◌++◌, Bool, true, List, [], flat_map}
+use Rattle.std.specs.Prelude.{ℕ, ◌≡◌, ◌≤◌, ◌++◌, Bool, true, List, [], flat_map, length}
 use Rattle.ipx_carrier.specs.Turns.{Turn, packets_of, received_of}
 use Rattle.ipx_carrier.specs.declared.datagrams.Datagrams as OfDevice
 use Rattle.ipx_ethernet_ports.specs.declared.end_sockets.EndSockets as OfSockets
@@ -27,7 +27,7 @@ PortsTakeRound {gd} {ge} {gl} whole broken old ended = (now : ℕ) × (begun : S
     × PortsTakeTurns ReceivesAtPort SendsByPort FailsToReceiveAt FailsToSendBy whole broken begun ended
 
 -- what a round does to the core is calls. In the turns of the round the ports gave what these calls received, in
--- order, and at a fault perhaps something more. What they gave was sent, at a fault perhaps not all of it
+-- order, and at a fault perhaps one datagram more. What they gave was sent, at a fault perhaps not all of it
 pub record RoundByCalls {R : Type 0} (old new : RunningRouter R) : Type 0 where
   pub calls : List RouterCall
   pub runs : SiteRuns calls old.core new.core
@@ -36,6 +36,7 @@ pub record RoundByCalls {R : Type 0} (old new : RunningRouter R) : Type 0 where
   pub ports : AfterMarks (PortsTakeRound whole broken old.ports) new.ports
   pub lost : List (ℕ × List ℕ)
   pub lost_at_fault : broken ≡ [] → lost ≡ []
+  pub at_most_one : length lost ≤ 1
   pub heard : answers_in numbered (received_of (whole ++ broken)) ≡ flat_map router_heard calls ++ lost
   pub gave : flat_map router_gave calls ≡ packets_of (whole ++ broken)
 

@@ -1,6 +1,6 @@
 -- The calls on the core of `ipx route`, each one exactly, and what turns over its ports are. The entry points
 -- are `DoesSiteCall`, and `SiteTurnsAreCalls` and `SiteFaultsAreCalls`. Defined by this project.
-use Rattle.std.specs.Prelude.{ℕ, ◌≡◌, ◌++◌, List}
+use Rattle.std.specs.Prelude.{ℕ, ◌≡◌, ◌≤◌, ◌++◌, List, length}
 use Rattle.ipx_carrier.specs.Turns.{FailsMidTurn, Turn, Turns, Ways, packets_of, received_of}
 use Rattle.ipx_carrier.specs.declared.fault.RunFault.{RunFault}
 use Rattle.ipx_site.specs.RouterPorts.{PortCopy}
@@ -34,11 +34,12 @@ SiteTurnsAreCalls = (ports : ℕ) (course : List Turn) (old new : SiteCore)
     → AreCallsOf DoesSiteCall router_heard router_gave
     (answers_in numbered (received_of course)) (packets_of course) old new
 
--- so is a turn that a fault ends: what it received is what its ports gave before, and it gave the packets of the
--- turn
+-- so is a turn that a fault ends: what it received is what its ports gave, but at most one datagram, the last, for
+-- which memory ran out. It gave the packets of the turn
 abbrev pub SiteFaultsAreCalls : Type 0
 SiteFaultsAreCalls = (ports : ℕ) (ways : Ways PortCopy) (t : Turn) (sent : List PortCopy) (fault : RunFault)
     (old new : SiteCore)
     → FailsMidTurn SiteHears SiteHearOutOfMemory SiteGives SiteNextOutOfMemory ports ways t sent fault old new
     → (received lost : List (ℕ × List ℕ)) × (answers_in numbered t.answers ≡ received ++ lost)
+    × (length lost ≤ 1)
     × AreCallsOf DoesSiteCall router_heard router_gave received t.packets old new

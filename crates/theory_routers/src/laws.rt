@@ -23,7 +23,8 @@ pub fn site_calls_are_router_calls()
 }
 
 /// Turns of this core over ports are calls of it, which received and gave the same, in the same
-/// order. So is a turn that a fault ends: what it received is what its ports gave before.
+/// order. So is a turn that a fault ends: what it received is what its ports gave before, but at
+/// most one datagram, for which memory ran out.
 pub fn site_turns_are_calls()
     ensures turns { SiteTurnsAreCalls }
     ensures faults { SiteFaultsAreCalls }
