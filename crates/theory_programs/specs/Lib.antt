@@ -1,0 +1,11 @@
+pub mod TurnCalls
+pub mod BetweenTurns
+pub mod SendingCalls
+pub mod ListeningCalls
+pub mod PacedRuns
+pub mod SiteCalls
+pub mod Lives
+pub mod Together
+pub mod PortTurns
+pub mod Rounds
+pub mod Transfers

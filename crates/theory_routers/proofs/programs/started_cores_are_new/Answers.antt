@@ -1,5 +1,0 @@
-use Rattle.theory_routers.proofs.Starting.{started}
-use Rattle.theory_routers.proofs.programs.started_cores_are_new.Goals as goal
-
-pub returns : goal.returns
-returns g c = started

@@ -1,6 +1,0 @@
-pub mod SiteCalls
-pub mod Lives
-pub mod Together
-pub mod PortTurns
-pub mod Rounds
-pub mod Transfers
