@@ -136,7 +136,7 @@ impl<'a, R: Net + Log + Clock> ListeningHost<'a, R> {
         ensures opened { IfOk result (λ l.
             IsOpened file.now None l.station.host_socket.ports) }
         // It watches its one socket, and standard output if it can be polled, and has not waited.
-        ensures watches { IfOk result (λ l. (gate : Option ℤ) × (l.station.poller.trace.items
+        ensures watches { IfOk result (λ l. (gate : Option ℤ) × (l.station.poller.poll.trace.items
             ≡ map Watched (udp_fds l.station.host_socket.ports.device.device.sockets.items)
             ++ watched_if gate)) }
     {

@@ -129,7 +129,7 @@ impl HostSocket {
         ensures marks { IfOk result (λ r. r.0.ports.device.device.marks ≡ true ∷ []) }
         // The poll watches its socket, and nothing else, and has not waited.
         ensures watches { IfOk result (λ r.
-            r.1.trace.items ≡ map Watched (udp_fds r.0.ports.device.device.sockets.items)) }
+            r.1.poll.trace.items ≡ map Watched (udp_fds r.0.ports.device.device.sockets.items)) }
     {
         let router = vec![in alloc; file.router]?;
         let peers = vec![in alloc; router]?;
@@ -223,7 +223,7 @@ impl<'a, R: Net + Log + Clock> RunningHost<'a, R> {
             map access_by s.host_socket.ports.device.access_lists.items ≡ guarded_host file.now dials ∷ []) }
         // It watches its one socket, and nothing else, and has not waited.
         ensures watches { IfOk result (λ s.
-            s.poller.trace.items ≡ map Watched (udp_fds s.host_socket.ports.device.device.sockets.items)) }
+            s.poller.poll.trace.items ≡ map Watched (udp_fds s.host_socket.ports.device.device.sockets.items)) }
     {
         check_streams(rt)?;
         let clock = SteadyClock::new(rt)?;
@@ -245,7 +245,7 @@ impl<'a, R: Net + Log + Clock> RunningHost<'a, R> {
         ensures clock { self.new.clock ≡ self.old.clock }
         ensures host_socket { self.new.host_socket ≡ self.old.host_socket }
         ensures refused { self.new.refused ≡ self.old.refused }
-        ensures watches { self.new.poller.trace.items ≡ self.old.poller.trace.items ++ watched_if fd }
+        ensures watches { self.new.poller.poll.trace.items ≡ self.old.poller.poll.trace.items ++ watched_if fd }
     {
         if let Some(fd) = fd {
             let _ = self.poller.watch_reading(fd);

@@ -93,7 +93,7 @@ impl<'a, R: Net + Log + Clock + Eprint> SendingHost<'a, R> {
         ensures opened { IfOk result (λ s.
             IsOpened file.now (ip_dialed file.now to) s.station.host_socket.ports) }
         // It watches its one socket, and standard input if it can be polled, and has not waited.
-        ensures watches { IfOk result (λ s. (gate : Option ℤ) × (s.station.poller.trace.items
+        ensures watches { IfOk result (λ s. (gate : Option ℤ) × (s.station.poller.poll.trace.items
             ≡ map Watched (udp_fds s.station.host_socket.ports.device.device.sockets.items)
             ++ watched_if gate)) }
     {

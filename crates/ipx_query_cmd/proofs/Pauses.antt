@@ -3,7 +3,7 @@ use Rattle.std.proofs.Common.{◌≡◌, ◌<◌, ℕ, Bool, [], ◌∷◌, ◌+
 use Rattle.std.specs.Prelude.{◌↔◌, IsTrue}
 use Rattle.ipx_carrier.specs.declared.report.Report.{Report}
 use Rattle.ipx_sockets.specs.PollEvents.{Waited}
-use Rattle.ipx_sockets.specs.Polling.{WaitsOnce}
+use Rattle.ipx_sockets.specs.Polling.{WaitsOnce, reported}
 use Rattle.ipx_sockets.specs.declared.poller.Poller.{Poller}
 use Rattle.ipx_query_cmd.specs.Pausing.{MayPause}
 use Rattle.ipx_query_cmd.specs.declared.fault.AskFault.{AskFault}
@@ -18,7 +18,7 @@ busy_by more report its a b x y e p q so =
     (subst (λ (n : ℕ). IsTrue more ↔ ((0 < report.heard) ⊎ ((0 < report.sent) ⊎ (a < n)))) q so))
 
 -- a wait after a turn that left the poller as it was
-pub paused : (old mid new : Poller) → mid ≡ old → new.trace.items ≡ mid.trace.items ++ Waited 20 ∷ [] → new.asked ≡ Some 20 → WaitsOnce 20 old new
+pub paused : (old mid new : Poller) → mid ≡ old → new.poll.trace.items ≡ mid.poll.trace.items ++ Waited 20 (reported new) ∷ [] → new.asked ≡ Some 20 → WaitsOnce 20 old new
 paused old mid new still traced asked = subst (λ (p : Poller). WaitsOnce 20 p new) still (traced, asked)
 
 pub as_wait : (p q : Poller) → MayPause p q → (q ≡ p) ⊎ ((time : ℕ) × WaitsOnce time p q)

@@ -101,7 +101,7 @@ impl<'a, R: Net + Clock> QueryHost<'a, R> {
         ensures access_list { IfOk result (λ h.
             map access_by h.own_socket.ports.device.access_lists.items ≡ guarded_querier file.now ∷ []) }
         // It watches its one socket, and nothing else, and has not waited.
-        ensures watches { IfOk result (λ h. h.poller.trace.items
+        ensures watches { IfOk result (λ h. h.poller.poll.trace.items
             ≡ map Watched (udp_fds h.own_socket.ports.device.device.sockets.items)) }
     {
         let clock = SteadyClock::new(rt)?;

@@ -74,7 +74,7 @@ impl QuerySocket {
             map access_by r.0.ports.device.access_lists.items ≡ access_by access_list ∷ []) }
         // The poller watches its socket, and nothing else, and has not waited.
         ensures watches { IfOk result (λ r.
-            r.1.trace.items ≡ map Watched (udp_fds r.0.ports.device.device.sockets.items)) }
+            r.1.poll.trace.items ≡ map Watched (udp_fds r.0.ports.device.device.sockets.items)) }
     {
         let peers = vec![in alloc; Vec::new(alloc)]?;
         let access_lists = vec![in alloc; access_list]?;

@@ -1,5 +1,5 @@
 -- One round of a router after another.
-use Rattle.std.proofs.Common.{◌≡◌, ◌⊎◌, ◌+◌, ◌++◌, ◌∷◌, ℕ, suc, Bool, true, false, List, [], Result, Ok, Err, inl, inr, arith, subst, sym, ◌∙◌}
+use Rattle.std.proofs.Common.{◌≡◌, ◌⊎◌, ◌+◌, ℕ, suc, Bool, true, false, List, Result, Ok, Err, inl, inr, arith, subst, sym, ◌∙◌}
 use Rattle.std.specs.Prelude.{◌==◌, IfErr, IfOk, OnOk, is_err, map}
 use Rattle.ipx_carrier.specs.PriorityRouterCore.{nothing_waits}
 use Rattle.ipx_carrier.specs.ReadySet.{AreMarked, is_any_marked}
@@ -11,7 +11,8 @@ use Rattle.ipxnet_server.specs.declared.port.Secret.{Secret}
 use Rattle.ipx_table_dump.specs.declared.client_places.ClientPlace.{ClientPlace}
 use Rattle.ipx_site.specs.KindPorts.{checked_ports, ArePortsBound}
 use Rattle.ipx_config.specs.Loading.{IsFileText}
-use Rattle.ipx_sockets.specs.PollEvents.{Waited, Watched}
+use Rattle.ipx_sockets.specs.PollEvents.{Watched}
+use Rattle.ipx_sockets.specs.Polling.{WaitsOnce, numbers_come}
 use Rattle.ipx_rate_limits.specs.PortLimits.{limits_of}
 use Rattle.ipx_site.specs.NewRouters.{HasFilteredNothing, IsUncounted}
 use Rattle.ipx_site.specs.PortsView.{ways_in}
@@ -21,7 +22,7 @@ use Rattle.ipx_site.specs.RouterWork.{WorksInRound}
 use Rattle.ipx_site.specs.RoutingRuns.{HasDoneNothing, KnowsNothing, Rounds, RoutesWell, RunsTo, StartsBy, StartsByFile, TakesRound}
 use Rattle.ipx_config.specs.Site.{IsSiteText}
 use Rattle.ipx_site.specs.RouterMarks.{AreIndicesDistinct}
-use Rattle.ipx_site.specs.SiteMarks.{AfterMarks, marks_in, numbers_come, port_fds}
+use Rattle.ipx_site.specs.SiteMarks.{AfterMarks, marks_in, port_fds}
 use Rattle.ipx_sockets.specs.AccessLists.{access_by}
 use Rattle.ipx_config.specs.SitePorts.{router_ports}
 use Rattle.ipx_site.specs.StaticNeighbours.{IsToHear}
@@ -43,7 +44,7 @@ pub took_round : {R T E : Type 0} (old new : RunningRouter R) (r : Result T E)
     × AfterMarks (λ ended. IsRound old.clock between StopsThere NeverGoesBack old.ports ended old.asked new.asked old.core new.core new.ports.ethernet.moment batch
     × SleepsAfter (IsDue (deadlines new.asked new.looked new.responses new.written new.core new.warnings new.client_log (happened new.totals new.core new.ports) new.ports.servers.servers.items)) (is_any_marked (marks_in ended)) between new.clock StopsThere time batch.fault batch.quiet
     × OnOk r (AreMarked (numbers_come new.ready) (marks_in ended) (marks_in new.ports))) new.ports
-    × (new.ready.trace.items ≡ old.ready.trace.items ++ Waited time ∷ []) × CountsRound batch old.totals new.totals
+    × WaitsOnce time old.ready new.ready × CountsRound batch old.totals new.totals
     × WorksInRound old.ports old.core new.ports.ethernet.moment old.asked new.asked batch old.totals new.totals old.warnings new.warnings old.drops new.drops old.written new.written
     → is_err r ≡ new.ready.failed → new.ports.servers.moment ≡ new.ports.ethernet.moment → ways_in new.ports ≡ ways_in old.ports
     → peers_of new.ports.datagrams.peers.items ≡ peers_of old.ports.datagrams.peers.items → new.ports.port_indices.items ≡ old.ports.port_indices.items
@@ -79,7 +80,7 @@ pub started_by : {R E : Type 0} (secret : Secret) (known : List ClientPlace) (si
     → IfOk started (λ s. IsToHear site.statics.items s.core.core.core)
     → IfOk started (λ s. (s.core.ports ≡ checked_ports site.ports.items) × (s.core.drops ≡ nothing_dropped_yet))
     → IfOk started (λ s. (s.core.core.ports ≡ router_ports site.ports.items) × (s.core.core.buckets ≡ fresh_buckets (limits_of site.ports.items)))
-    → IfOk started (λ s. ArePortsBound secret known site.ports.items s.ports) → IfOk started (λ s. s.ready.trace.items ≡ map Watched (port_fds s.ports)) → IfOk started (λ s. s.clock.last ≡ 0) → IfOk started (λ s. s.asked ≡ 0) → IfOk started (λ s. IsUncounted s.core) → IfOk started (λ s. HasDoneNothing s)
+    → IfOk started (λ s. ArePortsBound secret known site.ports.items s.ports) → IfOk started (λ s. s.ready.poll.trace.items ≡ map Watched (port_fds s.ports)) → IfOk started (λ s. s.clock.last ≡ 0) → IfOk started (λ s. s.asked ≡ 0) → IfOk started (λ s. IsUncounted s.core) → IfOk started (λ s. HasDoneNothing s)
     → IfOk started (λ s. HasFilteredNothing s.ports.datagrams.device)
     → IfOk started (λ s. StartsBy site s)
 started_by secret known site (Ok s) ports nothing empty statics checks queriers bound watched clock asked uncounted idle unfiltered =

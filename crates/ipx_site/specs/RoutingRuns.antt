@@ -1,7 +1,7 @@
 -- What the router of a file does from its start until it ends: one round after another. The entry points are
 -- `StartsByFile`, `RunsTo` and, of both, `RoutesWell`; of a given text `StartsByText` and `RoutesByText`. Defined by
 -- this project.
-use Rattle.std.specs.Prelude.{◌≡◌, ◌^◌, ◌-◌, ◌++◌, ◌∷◌, ℕ, zero, suc, Bool, true, false, List, [], map, replicate, None}
+use Rattle.std.specs.Prelude.{◌≡◌, ◌^◌, ◌-◌, ℕ, zero, suc, Bool, true, false, List, [], map, replicate, None}
 use Rattle.ipx_carrier.specs.PriorityRouterCore.{nothing_waits}
 use Rattle.ipx_carrier.specs.ReadySet.{AreMarked, is_any_marked}
 use Rattle.ipx_carrier.specs.Turns.{peers_of}
@@ -13,7 +13,8 @@ use Rattle.ipx_site.specs.KindPorts.{checked_ports, ArePortsBound}
 use Rattle.ipxnet_server.specs.declared.port.Secret.{Secret}
 use Rattle.ipx_table_dump.specs.declared.client_places.ClientPlace.{ClientPlace}
 use Rattle.ipx_config.specs.Loading.{IsFileText}
-use Rattle.ipx_sockets.specs.PollEvents.{Waited, Watched}
+use Rattle.ipx_sockets.specs.PollEvents.{Watched}
+use Rattle.ipx_sockets.specs.Polling.{WaitsOnce, numbers_come}
 use Rattle.ipx_rate_limits.specs.PortLimits.{limits_of}
 use Rattle.ipx_site.specs.DropLog.{no_drops_logged}
 use Rattle.ipx_site.specs.NewRouters.{HasFilteredNothing, HasLoggedNobody, HasSeenNothing, IsUncounted}
@@ -23,7 +24,7 @@ use Rattle.ipx_site.specs.RouterRounds.{IsRound, SleepsAfter}
 use Rattle.ipx_site.specs.RouterWork.{WorksInRound}
 use Rattle.ipx_config.specs.Site.{IsSiteText}
 use Rattle.ipx_site.specs.RouterMarks.{AreIndicesDistinct}
-use Rattle.ipx_site.specs.SiteMarks.{AfterMarks, marks_in, numbers_come, port_fds}
+use Rattle.ipx_site.specs.SiteMarks.{AfterMarks, marks_in, port_fds}
 use Rattle.ipx_sockets.specs.AccessLists.{access_by}
 use Rattle.ipx_sockets.specs.Moments.{never_logged}
 use Rattle.ipx_config.specs.SitePorts.{router_ports}
@@ -68,13 +69,13 @@ pub record StartsBy {R : Type 0} (site : RouterConfig) (first : RunningRouter R)
   pub bound : ArePortsBound secret known site.ports.items first.ports
   pub unfiltered : HasFilteredNothing first.ports.datagrams.device
   pub indices : AreIndicesDistinct first.ports.port_indices.items
-  pub watched : first.ready.trace.items ≡ map Watched (port_fds first.ports)
+  pub watched : first.ready.poll.trace.items ≡ map Watched (port_fds first.ports)
   pub clock : first.clock.last ≡ 0
   pub asked : first.asked ≡ 0
   pub idle : HasDoneNothing first
 
 -- one round, which begins with the pings that are due, followed by one wait, as long as there is nothing to do.
--- If the wait does not fail, the ports at which something came are marked, and no others. Marks of before stay,
+-- If the wait does not fail, the ports are marked of which the system reported an event in it, and no others. Marks of before stay,
 -- and nothing else changes at the ports after the turns. The ways of packets, the port indices and the accepted senders are unchanged.
 -- The totals count the batch of the round. Before its turns the router noted what was due as logged and written
 pub record TakesRound {R : Type 0} (old new : RunningRouter R) : Type 0 where
@@ -89,7 +90,7 @@ pub record TakesRound {R : Type 0} (old new : RunningRouter R) : Type 0 where
       between new.clock StopsThere time batch.fault batch.quiet
       × (new.ready.failed ≡ false → AreMarked (numbers_come new.ready) (marks_in ended) (marks_in new.ports)))
       new.ports
-  pub waits : new.ready.trace.items ≡ old.ready.trace.items ++ Waited time ∷ []
+  pub waits : WaitsOnce time old.ready new.ready
   pub totals : CountsRound batch old.totals new.totals
   pub work : WorksInRound old.ports old.core new.ports.ethernet.moment old.asked new.asked batch old.totals new.totals old.warnings new.warnings old.drops new.drops old.written new.written
   pub moments : new.ports.servers.moment ≡ new.ports.ethernet.moment

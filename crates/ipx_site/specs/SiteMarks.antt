@@ -1,15 +1,12 @@
 -- The marks of the ports of a running router, of all kinds, and at which of them something came. Defined by
 -- this project.
-use Rattle.std.specs.Prelude.{◌≡◌, ℕ, ℤ, Bool, List, ◌++◌, map}
-use Rattle.mio.specs.Event.{event_token}
-use Rattle.mio.specs.Events.{items}
+use Rattle.std.specs.Prelude.{◌≡◌, ℤ, Bool, List, ◌++◌}
 use Rattle.ipx_carrier.specs.declared.datagrams.Datagrams as OfDevice
 use Rattle.ipx_ipxnet_ports.specs.declared.place_sockets.PlaceSockets as OfPlaces
 use Rattle.ipx_ipxnet_ports.specs.declared.sockets.ServerSockets.{ServerSockets}
 use Rattle.ipx_ethernet_ports.specs.declared.end_sockets.EndSockets as OfSockets
 use Rattle.ipx_ethernet_ports.specs.declared.sockets.EthernetSockets.{EthernetSockets}
 use Rattle.ipx_sockets.specs.declared.source_filter.SourceFilter.{SourceFilter}
-use Rattle.ipx_sockets.specs.declared.poller.Poller.{Poller}
 use Rattle.ipx_sockets.specs.declared.sockets.UdpSockets.{UdpSockets}
 use Rattle.ipx_carrier.specs.Readiness.{Readiness}
 use Rattle.ipx_carrier.specs.ReadySet.{is_port_marked}
@@ -18,10 +15,6 @@ use Rattle.ipx_ipxnet_ports.specs.ServerAddresses.{server_fds}
 use Rattle.ipx_site.specs.PortsView.{SitePortsRun}
 use Rattle.ipx_site.specs.RouterMarks.{marked_by_kind}
 use Rattle.ipx_sockets.specs.Senders.{udp_fds}
-
--- the numbers of the descriptors at which something came at the last wait, starting at 0
-abbrev pub numbers_come : Poller → List ℕ
-numbers_come r = map (λ e. (event_token e).0) (items r.events)
 
 -- the mark of each port of a router, by the indices of its ports
 abbrev pub marks_of_ports : {gd : OfDevice.Ghosts (SourceFilter UdpSockets)} {ge : OfSockets.Ghosts EthernetSockets} {gl : OfPlaces.Ghosts ServerSockets} → SitePortsRun gd ge gl → Readiness

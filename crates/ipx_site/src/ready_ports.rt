@@ -2,7 +2,8 @@
 
 ghost use Rattle.std.specs.Prelude.{◌≡◌, slice_set, true};
 ghost use Rattle.ipx_carrier.specs.ReadySet.{AreMarked, is_any_marked};
-ghost use Rattle.ipx_site.specs.SiteMarks.{DifferInMarks, marks_in, numbers_come};
+ghost use Rattle.ipx_site.specs.SiteMarks.{DifferInMarks, marks_in};
+ghost use Rattle.ipx_sockets.specs.Polling.{numbers_come};
 
 use crate::router_ports::UdpRouterPorts;
 use ipx_sockets::Poller;
@@ -34,7 +35,7 @@ fn mark_port(ports: &mut UdpRouterPorts, number: usize)
     }
 }
 
-/// Marks the ports where something came at the last wait.
+/// Marks the ports of which the poller holds an event: where something came at the last wait.
 #[tactic(auto, using(crate::proofs::MarksSeparate::same_marks, crate::proofs::MarksSeparate::marks_on))]
 pub fn mark_ready(ports: &mut UdpRouterPorts, ready: &Poller)
     ensures marks { AreMarked (numbers_come ready.now) (marks_in ports.old) (marks_in ports.new) }

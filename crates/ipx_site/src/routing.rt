@@ -358,11 +358,11 @@ fn bound_ports<R: Net + Log>(
 
 /// A poller for the sockets of these ports.
 fn ready_for<R: Net>(rt: &R, alloc: Global, ports: &UdpRouterPorts) -> Result<Poller, RouteFault>
-    ensures watched { IfOk result (λ r. r.watched
+    ensures watched { IfOk result (λ r. r.poll.watched
         ≡ counted (length ports.now.datagrams.device.device.sockets.items
         + length ports.now.ethernet.sockets.ethernet.items
         + length ports.now.servers.sockets.sockets.items)) }
-    ensures trace { IfOk result (λ r. r.trace.items ≡ map Watched (port_fds ports.now)) }
+    ensures trace { IfOk result (λ r. r.poll.trace.items ≡ map Watched (port_fds ports.now)) }
 {
     let mut ready = Poller::new(rt, alloc, ports.device().device())?;
     ready.watch_ethernet(ports.ethernet().sockets())?;
@@ -405,7 +405,7 @@ pub(crate) fn start<'a, R: Net + Log + SystemClock>(
     // The access lists have dropped and refused nothing.
     ensures unfiltered { IfOk result (λ s. HasFilteredNothing s.ports.datagrams.device) }
     // Its poller watches the descriptors of all ports, by kind, and has not waited.
-    ensures watched { IfOk result (λ s. s.ready.trace.items ≡ map Watched (port_fds s.ports)) }
+    ensures watched { IfOk result (λ s. s.ready.poll.trace.items ≡ map Watched (port_fds s.ports)) }
     ensures clock { IfOk result (λ s. s.clock.last ≡ 0) }
     ensures asked { IfOk result (λ s. s.asked ≡ 0) }
     // Nor has it counted, looked at, logged or written anything itself.

@@ -1,6 +1,6 @@
 //! A router with its sockets, and its work besides the turns of its run.
 
-ghost use Rattle.std.specs.Prelude.{◌≡◌, ◌↔◌, ◌⊎◌, ◌<◌, ◌^◌, ◌++◌, ◌∷◌, [], ℕ, Bool, List, IfOk, OnOk, Some, is_err, is_ok, length, map, replicate, string_bytes, None};
+ghost use Rattle.std.specs.Prelude.{◌≡◌, ◌↔◌, ◌⊎◌, ◌<◌, ◌^◌, ℕ, Bool, List, IfOk, OnOk, Some, is_err, is_ok, length, map, replicate, string_bytes, None};
 ghost use Rattle.ipx_carrier.specs.ReadySet.{AreMarked, is_any_marked};
 ghost use Rattle.ipx_carrier.specs.Turns.{peers_of};
 ghost use Rattle.ipx_site.specs.ClientLog.{IsClientLookDue};
@@ -10,13 +10,13 @@ ghost use Rattle.ipx_site.specs.IdleTime.{IsDue, IsLineDue, IsToSend, deadlines,
 ghost use Rattle.ipx_site.specs.KnownFile.{TellsKnown};
 ghost use Rattle.ipx_site.specs.MetricsFile.{IsMetricsFile};
 ghost use Rattle.ipx_site.specs.NewRouters.{HasLoggedNobody, HasSeenNothing};
-ghost use Rattle.ipx_sockets.specs.PollEvents.{Waited};
+ghost use Rattle.ipx_sockets.specs.Polling.{WaitsOnce, numbers_come};
 ghost use Rattle.ipx_sockets.specs.AccessLists.{access_by};
 ghost use Rattle.ipx_site.specs.PortsView.{ways_in};
 ghost use Rattle.ipx_site.specs.RouterMetrics.{AddsFaultsOfWork, AreMetrics, CountsRound, no_counts};
 ghost use Rattle.ipx_site.specs.RouterRounds.{AsksAgain, IsRound, SleepsAfter};
 ghost use Rattle.ipx_site.specs.RouterWork.{IsDoneIfDue, WorksInRound};
-ghost use Rattle.ipx_site.specs.SiteMarks.{AfterMarks, marks_in, numbers_come};
+ghost use Rattle.ipx_site.specs.SiteMarks.{AfterMarks, marks_in};
 ghost use Rattle.ipx_sockets.specs.Steady.{NeverGoesBack, StopsThere};
 
 use crate::client_log::ClientLog;
@@ -484,8 +484,8 @@ impl<'a, R: SystemClock> RunningRouter<'a, R> {
     /// waits, and marks the ports where something came.
     pub(crate) fn step<S: Log + Files>(&mut self, rt: &S, alloc: Global) -> Result<(), WaitFault>
         // A round, which stops the clock before its turns, followed by one wait, as long as there
-        // is nothing to do. Then the ports are marked at which something came, and nothing else
-        // changes there.
+        // is nothing to do. Then the ports are marked of which the system reported an event in this
+        // wait, and nothing else changes there.
         ensures core { (between : SteadyClock R) × (batch : Batch) × (time : ℕ)
             × AfterMarks (λ ended. IsRound self.old.clock between StopsThere NeverGoesBack
             self.old.ports ended self.old.asked self.new.asked self.old.core self.new.core
@@ -498,7 +498,7 @@ impl<'a, R: SystemClock> RunningRouter<'a, R> {
             between self.new.clock StopsThere time batch.fault batch.quiet
             × OnOk result (AreMarked (numbers_come self.new.ready) (marks_in ended)
             (marks_in self.new.ports))) self.new.ports
-            × (self.new.ready.trace.items ≡ self.old.ready.trace.items ++ Waited time ∷ [])
+            × WaitsOnce time self.old.ready self.new.ready
             × CountsRound batch self.old.totals self.new.totals
             × WorksInRound self.old.ports self.old.core self.new.ports.ethernet.moment
             self.old.asked self.new.asked batch self.old.totals self.new.totals

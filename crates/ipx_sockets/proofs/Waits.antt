@@ -3,7 +3,7 @@ use Rattle.std.proofs.Common.{◌≡◌, ◌≢◌, ℕ, zero, suc, ◌+◌, Boo
 use Rattle.std.proofs.lemmas.List.{length_push}
 use Rattle.std.specs.Prelude.{◌↔◌}
 use Rattle.ipx_sockets.specs.PollEvents.{PollEvent, Waited}
-use Rattle.ipx_sockets.specs.Polling.{FailedToWait, FailsToWait, WaitsOnce, WaitsWell}
+use Rattle.ipx_sockets.specs.Polling.{FailedToWait, FailsToWait, WaitsOnce, WaitsWell, reported}
 use Rattle.ipx_sockets.specs.declared.poller.Poller.{Poller}
 
 pub both : (b : Bool) → b ≡ true → b ≡ false → ⊥
@@ -22,14 +22,14 @@ err_is a b r p q =
 pub not_err : {T E : Type 0} (x : T) (e : E) → Ok x ≡ Err e → ⊥
 not_err x e is = cc
 
-once_more : (time : ℕ) (p q : Poller) → WaitsOnce time p q → length q.trace.items ≡ length p.trace.items + 1
-once_more time p q w = ap (λ (l : List PollEvent). length l) w.0 ∙ length_push p.trace.items (Waited time)
+once_more : (time : ℕ) (p q : Poller) → WaitsOnce time p q → length q.poll.trace.items ≡ length p.poll.trace.items + 1
+once_more time p q w = ap (λ (l : List PollEvent). length l) w.0 ∙ length_push p.poll.trace.items (Waited time (reported q))
 
 -- a poller that is unchanged did not wait
 still : (p q : Poller) → q ≡ p → FailsToWait p q → ⊥
 still p q same (time, waits, failed) =
     let long = once_more time p q waits in
-    let short = ap (λ (r : Poller). length r.trace.items) same in
+    let short = ap (λ (r : Poller). length r.poll.trace.items) same in
     omega (arith, long, short)
 
 -- a step that does not wait
@@ -50,8 +50,8 @@ waits_on count p q r well (inl same) never = (count, subst (λ (k : Poller). Wai
 waits_on count p q r well (inr w) never =
     (suc count, (q, w.0, well, w.1, false_if_not r.failed (λ failed. never (w.0, w.1, failed))))
 
-waits_grow : (n : ℕ) (p q : Poller) → WaitsWell n p q → length q.trace.items ≡ length p.trace.items + n
-waits_grow zero p q same = let e = ap (λ (r : Poller). length r.trace.items) same in omega (arith, e)
+waits_grow : (n : ℕ) (p q : Poller) → WaitsWell n p q → length q.poll.trace.items ≡ length p.poll.trace.items + n
+waits_grow zero p q same = let e = ap (λ (r : Poller). length r.poll.trace.items) same in omega (arith, e)
 waits_grow (suc n) p q (mid, time, well, waits, went) =
     let before = waits_grow n p mid well in
     let last = once_more time mid q waits in
@@ -60,7 +60,7 @@ waits_grow (suc n) p q (mid, time, well, waits, went) =
 -- if no wait failed, none did
 ends_well : (n : ℕ) (p q : Poller) → WaitsWell n p q → FailedToWait p q → ⊥
 ends_well zero p q same (count, mid, well, fails) =
-    let short = ap (λ (r : Poller). length r.trace.items) same in
+    let short = ap (λ (r : Poller). length r.poll.trace.items) same in
     let before = waits_grow count p mid well in
     let last = once_more fails.0 mid q fails.1 in
     omega (arith, short, before, last)

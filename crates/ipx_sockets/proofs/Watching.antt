@@ -1,10 +1,19 @@
 -- Which descriptors a poller watches, one after another.
-use Rattle.std.proofs.Common.{◌≡◌, ◌∙◌, ◌+◌, ◌++◌, ◌∷◌, ℕ, suc, ℤ, List, [], Some, ap, arith, map, sym, take}
+use Rattle.std.proofs.Common.{◌≡◌, ◌∙◌, ◌<◌, ◌≤◌, ◌+◌, ◌-◌, ◌^◌, ◌++◌, ◌∷◌, ℕ, suc, ℤ, List, [], Some, ap, arith, map, sym, take}
+use Rattle.std.proofs.Math.Nat.{min-eq_left}
 use Rattle.std.proofs.Math.Seq.{take-suc}
 use Rattle.std.proofs.lemmas.List.{append_assoc, map_push}
 use Rattle.std.proofs.lemmas.Option.{get_or_from_slice_get, slice_get_within}
 use Rattle.std.specs.Prelude.{slice_get}
+use Rattle.ipx_carrier.specs.Counting.{counted}
 use Rattle.ipx_sockets.specs.PollEvents.{PollEvent, Watched}
+
+-- none yet
+pub none_watched : (watched : ℕ) → watched < 2 ^ 64 → watched ≡ counted (watched + 0)
+none_watched n small =
+    let same : n + 0 ≡ n = omega arith in
+    let within : n ≤ 2 ^ 64 - 1 = omega (arith, small) in
+    sym (ap counted same ∙ min-eq_left within)
 
 -- one more
 pub watched_more : (fds : List ℤ) (i : ℕ) (fd : ℤ) (old mid new : List PollEvent) → mid ≡ old ++ map Watched (take i fds) → slice_get fds i ≡ Some fd

@@ -17,6 +17,7 @@ mod sockets;
 mod source_check;
 mod source_filter;
 mod throttled_log;
+mod traced_poll;
 mod warning;
 
 pub use bind_fault::{BindError, BindFault, bind_error};

@@ -1,7 +1,7 @@
-use Rattle.std.proofs.Common.{◌≡◌, ◌∙◌, ◌++◌, ◌∷◌, [], ap, rules, subst, sym}
+use Rattle.std.proofs.Common.{◌∙◌, ap, rules, subst, sym}
 use Rattle.ipx_carrier.specs.ReadySet.{is_any_marked}
 use Rattle.ipx_site.specs.IdleTime.{IsDue, deadlines, happened}
-use Rattle.ipx_sockets.specs.PollEvents.{Waited}
+use Rattle.ipx_sockets.specs.Polling.{WaitsOnce}
 use Rattle.ipx_site.specs.RouterMetrics.{CountsRound}
 use Rattle.ipx_site.specs.RouterRounds.{IsRound, SleepsAfter}
 use Rattle.ipx_site.specs.SiteMarks.{marks_in}
@@ -18,8 +18,8 @@ returns-in_err-wait-clause-core g c =
     let t = c.rest-time.new.self in
     let e = c.rest-time.ensures in
     let b = c.round-batch.result in
-    let waits_once : c.wait.new.self.trace.items ≡ old.ready.trace.items ++ Waited c.rest-time.result ∷ [] =
-    c.wait.ensures.trace ∙ ap (λ it. it.trace.items ++ Waited c.rest-time.result ∷ []) (e.ready ∙ c.round-batch.ensures.ready) in
+    let waits_once : WaitsOnce c.rest-time.result old.ready c.wait.new.self =
+    subst (λ it. WaitsOnce c.rest-time.result it c.wait.new.self) (e.ready ∙ c.round-batch.ensures.ready) (c.wait.ensures.trace, c.wait.ensures.asked) in
     let same = same_deadlines s.asked t.asked s.looked t.looked s.responses t.responses s.written t.written s.core t.core s.warnings t.warnings s.client_log t.client_log
     (happened s.totals s.core s.ports) (happened t.totals t.core t.ports) s.ports.servers.servers.items t.ports.servers.servers.items e.asked e.looked.0 e.looked.1 e.looked.2 e.core e.warnings e.client_log
     (ap (λ it. happened it t.core t.ports) e.totals ∙ ap (λ it. happened s.totals it t.ports) e.core ∙ ap (λ it. happened s.totals s.core it) e.ports) (ap (λ it. it.servers.servers.items) e.ports) in (
@@ -58,8 +58,8 @@ returns-clause-core g c =
     let m = c.mark_ready.ensures.rest in
     let count = happened_separate t.ports ports m t.totals t.core ∙ ap (λ it. happened it t.core t.ports) e.totals ∙ ap (λ it. happened s.totals it t.ports) e.core
     ∙ ap (λ it. happened s.totals s.core it) e.ports in
-    let waits_once : c.wait.new.self.trace.items ≡ old.ready.trace.items ++ Waited c.rest-time.result ∷ [] =
-    c.wait.ensures.trace ∙ ap (λ it. it.trace.items ++ Waited c.rest-time.result ∷ []) (e.ready ∙ c.round-batch.ensures.ready) in
+    let waits_once : WaitsOnce c.rest-time.result old.ready c.wait.new.self =
+    subst (λ it. WaitsOnce c.rest-time.result it c.wait.new.self) (e.ready ∙ c.round-batch.ensures.ready) (c.wait.ensures.trace, c.wait.ensures.asked) in
     let same = same_deadlines s.asked t.asked s.looked t.looked s.responses t.responses s.written t.written s.core t.core s.warnings t.warnings s.client_log t.client_log
     (happened s.totals s.core s.ports) (happened t.totals t.core ports) s.ports.servers.servers.items ports.servers.servers.items e.asked e.looked.0 e.looked.1 e.looked.2 e.core e.warnings e.client_log count
     (ap (λ l. l.servers.items) m.servers ∙ ap (λ it. it.servers.servers.items) e.ports) in (

@@ -1,5 +1,5 @@
 -- An empty body. The borrow is opened and closed at another ghost value.
-use Rattle.std.proofs.Common.{ℕ, List, [], ◌∷◌, ◌++◌, refl, MutBor}
+use Rattle.std.proofs.Common.{ℕ, List, [], ◌∷◌, ◌++◌, Some, refl, MutBor}
 use seplogic.Ra.Ura.{Ura}
 use mir.Syntax.{named}
 use mir.Val.{Val, vunit, vptr}
@@ -27,7 +27,12 @@ use denote.Triple.Entry.{on_entry}
 use denote.Triple.Spec.{Meets, triple_of}
 use denote.Triple.Table.{entered}
 use denote.Triple.Walked.{says, Stays, stay_ref, stay_none_ref, walk_of, AllGo, Goes-ref, Goes-none_ref, Walks, ends_at, walked, walk_Meets}
-use Rattle.ipx_sockets.specs.PollEvents.{Waited}
+use Rattle.std.specs.declared.alloc.Global.{Global}
+use Rattle.std.specs.contracts.alloc.Global as G
+use Rattle.std.specs.contracts.impls.GlobalAllocator.TheImpl as A'
+use Rattle.mio.specs.declared.event.events.Events.{Events}
+use Rattle.mio.specs.contracts.event.events.Events as E
+use Rattle.ipx_sockets.specs.PollEvents.{Waited, numbers_of}
 use Rattle.ipx_sockets.specs.declared.poll_trace.PollTrace.{PollTrace}
 use Rattle.ipx_sockets.specs.contracts.poll_trace.PollTrace as T
 use Rattle.ipx_sockets.specs.contracts.poll_trace.PollTrace.note_waited.Key.{name as #it}
@@ -36,42 +41,42 @@ use Rattle.ipx_sockets.proofs.poll_trace.PollTrace.note_waited.Statement as stat
 use Rattle.ipx_sockets.proofs.poll_trace.PollTrace.note_waited.Code as code
 
 abbrev Arg : Type 0
-Arg = MutBor PollTrace × (Bor ℕ × Unit {0})
+Arg = MutBor PollTrace × (Bor ℕ × (Bor (Events Global) × Unit {0}))
 
 abbrev stayed : Stays (it.ended).signature.params (it.ended).kept
-stayed = (stay_ref (0 ∷ []) tt (plain (λ _. T.the_row)), (stay_none_ref (1 ∷ []) tt (plain (λ _. u64)) yes, tt))
+stayed = (stay_ref (0 ∷ []) tt (plain (λ _. T.the_row)), (stay_none_ref (1 ∷ []) tt (plain (λ _. u64)) yes, (stay_none_ref (2 ∷ []) tt (plain (λ _. E.the_row G.the_row A'.ghosts)) yes, tt)))
 
-module _ {M : Type 1} {𝓤 : Ura M} (𝓛 : Logic 𝓤) (at_mem : Memory → SProp 𝓤) (run : Routine → Fun 𝓤) (κ κ' : Lft) (q q' : Share) (b o : ℕ) (γ : GName) (h : PollTrace) (k : Bor ℕ) where
+module _ {M : Type 1} {𝓤 : Ura M} (𝓛 : Logic 𝓤) (at_mem : Memory → SProp 𝓤) (run : Routine → Fun 𝓤) (κ κ' κ'' : Lft) (q q' q'' : Share) (b o : ℕ) (γ : GName) (h : PollTrace) (k : Bor ℕ) (s : Bor (Events Global)) where
   open 𝓛 use {H, A}
 
   abbrev x : Arg
-  x = (record { ref_ptr = (b, o); ghost_name = γ; now = h }, (k, tt))
+  x = (record { ref_ptr = (b, o); ghost_name = γ; now = h }, (k, (s, tt)))
 
   abbrev h' : PollTrace
-  h' = record { items = h.items ++ Waited k.now ∷ [] }
+  h' = record { items = h.items ++ Waited k.now (Some (numbers_of s.now)) ∷ [] }
 
-  abbrev at : List Val × (List Val × Unit {0})
-  at = (vptr b o ∷ [], (vptr k.ref_ptr.0 k.ref_ptr.1 ∷ [], tt))
+  abbrev at : List Val × (List Val × (List Val × Unit {0}))
+  at = (vptr b o ∷ [], (vptr k.ref_ptr.0 k.ref_ptr.1 ∷ [], (vptr s.ref_ptr.0 s.ref_ptr.1 ∷ [], tt)))
 
   abbrev rest : base.Fml.Fml
-  rest = owns (ShrRef (named 1) κ' u64 ∷ []) x.1 at.1
+  rest = owns (ShrRef (named 1) κ' u64 ∷ ShrRef (named 2) κ'' (E.the_row G.the_row A'.ghosts) ∷ []) x.1 at.1
 
   abbrev Post : Val → SProp 𝓤
-  Post = (walk_of 𝓛 it.ended stayed (it.clauses 𝓛 at_mem run)).post (((κ, (κ', tt)), (q, (q', tt)), tt, x, at), tt)
+  Post = (walk_of 𝓛 it.ended stayed (it.clauses 𝓛 at_mem run)).post (((κ, (κ', (κ'', tt))), (q, (q', (q'', tt))), tt, x, at), tt)
 
-  exits : ent 𝓤 (sep 𝓤 (A.obs γ ((T.the_row).coded.code h')) (sep 𝓤 (A.bor κ (Body (mem T.the_row) b o γ)) (sep 𝓤 (A.lft κ q) (sep 𝓤 (types.Logic.sem 𝓛 rest) (sep 𝓤 (A.lft κ' q') (emp 𝓤)))))) (Post vunit)
+  exits : ent 𝓤 (sep 𝓤 (A.obs γ ((T.the_row).coded.code h')) (sep 𝓤 (A.bor κ (Body (mem T.the_row) b o γ)) (sep 𝓤 (A.lft κ q) (sep 𝓤 (types.Logic.sem 𝓛 rest) (sep 𝓤 (A.lft κ' q') (sep 𝓤 (A.lft κ'' q'') (emp 𝓤))))))) (Post vunit)
   exits =
-      qed 𝓛 (‵ (fobs γ ((T.the_row).coded.code h')) ∷ ‵ (fbor κ (Body (mem T.the_row) b o γ)) ∷ ‵ (flft κ q) ∷ ‵ rest ∷ (‵ (flft κ' q') ⊛ ‵ ftrue) ∷ []) ∵
-      suffices ! _ (ends_at 𝓛 it.ended stayed (it.clauses 𝓛 at_mem run) (((κ, (κ', tt)), (q, (q', tt)), tt, x, at), tt) vunit tt (h', (tt, tt)) (tt, (tt, tt))) $ says ! refl $ move ! (2 ∷ 4 ∷ []) $ join ! $
+      qed 𝓛 (‵ (fobs γ ((T.the_row).coded.code h')) ∷ ‵ (fbor κ (Body (mem T.the_row) b o γ)) ∷ ‵ (flft κ q) ∷ ‵ rest ∷ (‵ (flft κ' q') ⊛ (‵ (flft κ'' q'') ⊛ ‵ ftrue)) ∷ []) ∵
+      suffices ! _ (ends_at 𝓛 it.ended stayed (it.clauses 𝓛 at_mem run) (((κ, (κ', (κ'', tt))), (q, (q', (q'', tt))), tt, x, at), tt) vunit tt (h', (tt, (tt, tt))) (tt, (tt, (tt, tt)))) $ says ! refl $ move ! (2 ∷ 4 ∷ []) $ join ! $
       frame ! $ feq_i ! (List Val) (vptr b o ∷ []) (vptr b o ∷ []) refl $ fjoin3 ! $ fjoin ! $
       feq_i ! (List Val) (vunit ∷ []) (vunit ∷ []) refl $ move ! (1 ∷ 0 ∷ []) $ done !
 
   module _ (C : Calls 𝓤 H) (Λ : Loops 𝓤 H) where
-    walk : ent 𝓤 (on_entry 𝓛 it.signature (κ, (κ', tt)) (q, (q', tt)) x at) (WpFn 𝓤 H C Λ code.function (vptr b o ∷ vptr k.ref_ptr.0 k.ref_ptr.1 ∷ []) Post)
+    walk : ent 𝓤 (on_entry 𝓛 it.signature (κ, (κ', (κ'', tt))) (q, (q', (q'', tt))) x at) (WpFn 𝓤 H C Λ code.function (vptr b o ∷ vptr k.ref_ptr.0 k.ref_ptr.1 ∷ vptr s.ref_ptr.0 s.ref_ptr.1 ∷ []) Post)
     walk =
-        qed 𝓛 ((‵ (flft κ q) ⊛ (‵ (flft κ' q') ⊛ ‵ ftrue)) ∷ ‵ (owns (MutRef (named 0) κ T.the_row ∷ ShrRef (named 1) κ' u64 ∷ []) x at) ∷ []) ∵ split ! $ move ! (2 ∷ []) $ fsplit ! $ fsplit3 ! $ drop ! $ move ! (0 ∷ 1 ∷ 3 ∷ []) $
-        enter ! C Λ code.function (vptr b o ∷ vptr k.ref_ptr.0 k.ref_ptr.1 ∷ []) _ $
-        alloc_all ! (λ l. pass_all ! refl ((tt, tt), ((tt, tt), tt)) $
+        qed 𝓛 ((‵ (flft κ q) ⊛ (‵ (flft κ' q') ⊛ (‵ (flft κ'' q'') ⊛ ‵ ftrue))) ∷ ‵ (owns (MutRef (named 0) κ T.the_row ∷ ShrRef (named 1) κ' u64 ∷ ShrRef (named 2) κ'' (E.the_row G.the_row A'.ghosts) ∷ []) x at) ∷ []) ∵ split ! $ move ! (2 ∷ []) $ fsplit ! $ fsplit3 ! $ drop ! $ move ! (0 ∷ 1 ∷ 3 ∷ []) $
+        enter ! C Λ code.function (vptr b o ∷ vptr k.ref_ptr.0 k.ref_ptr.1 ∷ vptr s.ref_ptr.0 s.ref_ptr.1 ∷ []) _ $
+        alloc_all ! (λ l. pass_all ! refl ((tt, tt), ((tt, tt), ((tt, tt), tt))) $
         move ! (0 ∷ 1 ∷ 2 ∷ []) $ opens ! tt T.the_row {h = h} b o (λ vs.
         sets ! (of_opd ! (unit_lit !)) refl (tt, tt) $
         move ! (1 ∷ []) $ use1 𝓛 (‵ ((T.the_row).own_val h' vs)) (id⊢ 𝓤 _) $ move ! (1 ∷ 0 ∷ []) $ closes ! tt T.the_row h' vs b o $
@@ -82,11 +87,11 @@ module _ {M : Type 1} {𝓤 : Ura M} (𝓛 : Logic 𝓤) (at_mem : Memory → SP
   open 𝓛 use {H}
 
   walks : (C : Calls 𝓤 H) (Λ : Loops 𝓤 H) → Walks 𝓛 it.ended stayed (WpFn 𝓤 H C Λ code.function) (it.clauses 𝓛 at_mem run)
-  walks C Λ = walked 𝓛 it.ended stayed (it.clauses 𝓛 at_mem run) (WpFn 𝓤 H C Λ code.function) (λ κs. (mut_vals, (shr_vals, tt))) (λ κs. (mut_Tells (named 0) κs.0 T.the_row, (shr_Tells (named 1) κs.1.0 u64, tt)))
-      (λ κs qs bounds a _ are. via 𝓤 _ (fst∗ 𝓤 _ (emp 𝓤)) (walk 𝓛 at_mem run κs.0 κs.1.0 qs.0 qs.1.0 a.0.ref_ptr.0 a.0.ref_ptr.1 a.0.ghost_name a.0.now a.1.0 C Λ))
+  walks C Λ = walked 𝓛 it.ended stayed (it.clauses 𝓛 at_mem run) (WpFn 𝓤 H C Λ code.function) (λ κs. (mut_vals, (shr_vals, (shr_vals, tt)))) (λ κs. (mut_Tells (named 0) κs.0 T.the_row, (shr_Tells (named 1) κs.1.0 u64, (shr_Tells (named 2) κs.1.1.0 (E.the_row G.the_row A'.ghosts), tt))))
+      (λ κs qs bounds a _ are. via 𝓤 _ (fst∗ 𝓤 _ (emp 𝓤)) (walk 𝓛 at_mem run κs.0 κs.1.0 κs.1.1.0 qs.0 qs.1.0 qs.1.1.0 a.0.ref_ptr.0 a.0.ref_ptr.1 a.0.ghost_name a.0.now a.1.0 a.1.1.0 C Λ))
 
-  goes : AllGo 𝓛 2 (it.signature).params (it.ended).kept stayed
-  goes = (Goes-ref 𝓛 2 0 tt (plain (λ _. T.the_row)), (Goes-none_ref 𝓛 2 (1 ∷ []) tt (plain (λ _. u64)) yes, tt))
+  goes : AllGo 𝓛 3 (it.signature).params (it.ended).kept stayed
+  goes = (Goes-ref 𝓛 3 0 tt (plain (λ _. T.the_row)), (Goes-none_ref 𝓛 3 (1 ∷ []) tt (plain (λ _. u64)) yes, (Goes-none_ref 𝓛 3 (2 ∷ []) tt (plain (λ _. E.the_row G.the_row A'.ghosts)) yes, tt)))
 
 meets : {M : Type 1} {𝓤 : Ura M} (𝓛 : Logic 𝓤) → (at_mem : Memory → SProp 𝓤) (run : Routine → Fun 𝓤) (𝓣 : Tables 𝓤 𝓛.H)
     → Meets 𝓛 it.signature (WpFn 𝓤 𝓛.H 𝓣.C 𝓣.Λ code.function) (it.spec 𝓛 at_mem run)

@@ -5,6 +5,6 @@ use Rattle.ipx_sockets.specs.PollEvents.{Watched}
 use Rattle.ipx_sockets.proofs.poller.Poller.watch_ethernet.Given as goal
 
 abbrev pub invariant-loop-wire : goal.invariant-loop-wire
-invariant-loop-wire l = (l.self.watched ≡ counted (l.fn.self.watched + l.wire))
-    × (l.self.trace.items ≡ l.fn.self.trace.items ++ map Watched (take l.wire (ethernet_fds l.sockets.ethernet.items)))
+invariant-loop-wire l = (l.self.poll.watched ≡ counted (l.fn.self.poll.watched + l.wire))
+    × (l.self.poll.trace.items ≡ l.fn.self.poll.trace.items ++ map Watched (take l.wire (ethernet_fds l.sockets.ethernet.items)))
     × (l.self.asked ≡ l.fn.self.asked)

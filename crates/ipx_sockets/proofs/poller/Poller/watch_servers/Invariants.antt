@@ -5,6 +5,6 @@ use Rattle.ipx_sockets.specs.PollEvents.{Watched}
 use Rattle.ipx_sockets.proofs.poller.Poller.watch_servers.Given as goal
 
 abbrev pub invariant-loop-server : goal.invariant-loop-server
-invariant-loop-server l = (l.self.watched ≡ counted (l.fn.self.watched + l.server))
-    × (l.self.trace.items ≡ l.fn.self.trace.items ++ map Watched (take l.server (server_fds l.sockets.sockets.items)))
+invariant-loop-server l = (l.self.poll.watched ≡ counted (l.fn.self.poll.watched + l.server))
+    × (l.self.poll.trace.items ≡ l.fn.self.poll.trace.items ++ map Watched (take l.server (server_fds l.sockets.sockets.items)))
     × (l.self.asked ≡ l.fn.self.asked)

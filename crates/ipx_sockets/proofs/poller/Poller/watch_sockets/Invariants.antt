@@ -5,6 +5,6 @@ use Rattle.ipx_sockets.specs.PollEvents.{Watched}
 use Rattle.ipx_sockets.proofs.poller.Poller.watch_sockets.Given as goal
 
 abbrev pub invariant-loop-port : goal.invariant-loop-port
-invariant-loop-port l = (l.self.watched ≡ counted (l.fn.self.watched + l.port))
-    × (l.self.trace.items ≡ l.fn.self.trace.items ++ map Watched (take l.port (udp_fds l.sockets.sockets.items)))
+invariant-loop-port l = (l.self.poll.watched ≡ counted (l.fn.self.poll.watched + l.port))
+    × (l.self.poll.trace.items ≡ l.fn.self.poll.trace.items ++ map Watched (take l.port (udp_fds l.sockets.sockets.items)))
     × (l.self.asked ≡ l.fn.self.asked)
