@@ -15,6 +15,9 @@ use Rattle.ipx_static.specs.declared.neighbour.StaticNeighbour.{StaticNeighbour}
 use Rattle.ipx_static.specs.WithStatics.{WithStaticsView}
 use Rattle.ipx_static.specs.StaticOffers.{Counts, FindsSpace, IsAnotherNode, IsAdvertisedAlone, static_source}
 use Rattle.ipx_static.specs.StaticRuns.{Asked, AsksOnceMore, Comes, DoStaticCalls, DependsOn, DoesStaticCall, StaticCall, StaticCallAt, IsAskedEachMinute, OffersItself, TellsItself, asked_in, uncounted}
+use Rattle.ipx_source_checks.specs.declared.failed_check.CheckedPort.{CheckedPort}
+use Rattle.ipx_source_checks.specs.declared.failed_check.FailedCheck.{FailedCheck}
+use Rattle.ipx_source_checks.specs.SourceChecks.{FailsAt}
 use Rattle.ipx_config.specs.declared.statics.StaticEntry.{StaticEntry}
 use Rattle.ipx_config.specs.declared.statics.StaticItem.{StaticItem}
 use Rattle.ipx_config.specs.declared.statics.StaticItem.TheVariants.{Route, Service}
@@ -92,6 +95,10 @@ ServicesOfFilesHold = (text : List ℕ) (s : RouterConfig) → IsSiteText text s
     → (now : ℕ) → now ≤ asked_in calls start + 60000
     → Counts (service_metric e) now (services_in new.core.router.services (key_of_service e, h.by))
 
+-- bytes that come in at a port fail no source check of these ports
+abbrev pub FailsNone : List CheckedPort → ℕ → List ℕ → Type 0
+FailsNone ports port bytes = (f : FailedCheck) → FailsAt ports port bytes f → ⊥
+
 -- bytes come in to the core of a site's router, it is asked for a packet, or it is to repeat its requests;
 -- and it does not run out of memory
 abbrev pub DoesSiteCall : ℕ → StaticCall → SiteCore → SiteCore → Type 0
@@ -114,13 +121,13 @@ pub record RunsAsSite (s : RouterConfig) (start : ℕ) (calls : List StaticCallA
   pub goes_on : DoSiteCalls calls first new
   pub room : FindsSpace (uncounted old.core.core).core (uncounted first.core.core).core
 
--- then each route and each service of the file is kept in it as above
+-- then each route and each service of the file is kept in it as above. What fails a source check may advertise them
 abbrev pub RoutesOfSitesHold : Type 0
 RoutesOfSitesHold = (text : List ℕ) (s : RouterConfig) → IsSiteText text s → (start : ℕ) (calls : List StaticCallAt)
     (old new : SiteCore) → RunsAsSite s start calls old new
     → (h : StaticEntry) → Contains s.statics.items h → (e : RipEntry) → h.word ≡ Route e
     → ((n : StaticNeighbour) → static_source n ≡ h.by
-    → IsAskedEachMinute (λ port bytes. (x : RipEntry)
+    → IsAskedEachMinute (λ port bytes. FailsNone old.ports port bytes → (x : RipEntry)
     → DependsOnRoute s (uncounted old.core.core) (uncounted new.core.core) h e x
     → TellsItself (router_ports s.ports.items) n x.network port bytes → ⊥) calls start)
     → (now : ℕ) → now ≤ asked_in calls start + 60000
@@ -131,7 +138,7 @@ ServicesOfSitesHold = (text : List ℕ) (s : RouterConfig) → IsSiteText text s
     (old new : SiteCore) → RunsAsSite s start calls old new
     → (h : StaticEntry) → Contains s.statics.items h → (e : ServiceEntry) → h.word ≡ Service e
     → ((n : StaticNeighbour) → static_source n ≡ h.by
-    → IsAskedEachMinute (λ port bytes. (x : ServiceEntry)
+    → IsAskedEachMinute (λ port bytes. FailsNone old.ports port bytes → (x : ServiceEntry)
     → DependsOnService s (uncounted old.core.core) (uncounted new.core.core) h e x
     → OffersItself (router_ports s.ports.items) n (key_of_service x) port bytes → ⊥) calls start)
     → (now : ℕ) → now ≤ asked_in calls start + 60000
