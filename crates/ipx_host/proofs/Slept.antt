@@ -13,10 +13,10 @@ use Rattle.ipx_host.specs.declared.paced_host_core.PacedHostCore.{PacedHostCore}
 
 -- what the first so many of these do
 pub record StayUpTo (core : PacedHostCore) (items : List Session) (i least : ℕ) : Type 0 where
-  pub most : least ≤ 3600000
+  pub most : least ≤ 10000
   pub stay : (t : ℕ) → core.moment ≤ t → t < core.moment + least → t < 2 ^ 64
       → All (JustStaysAt core t) (take i items)
-  pub over : least < 3600000 → (place : ℕ) × (c : Session) × (slice_get items place ≡ Some c)
+  pub over : least < 10000 → (place : ℕ) × (c : Session) × (slice_get items place ≡ Some c)
       × (JustStaysAt core (core.moment + least) c → ⊥)
 
 -- one more

@@ -38,25 +38,25 @@ pub record IsSleep (core : PacedHostCore) (most time : ℕ) : Type 0 where
 abbrev pub JustStaysAt : PacedHostCore → ℕ → Session → Type 0
 JustStaysAt core t c = IsSessionAction Stays c.phase (state_at core.endpoint c.id) (t - c.heard)
 
--- no action is due for a connection for this long, which is at most an hour. If it is less, one is due then
+-- no action is due for a connection for this long, which is at most ten seconds. If it is less, one is due then
 pub record StaysFor (core : PacedHostCore) (c : Session) (time : ℕ) : Type 0 where
-  pub most : time ≤ 3600000
+  pub most : time ≤ 10000
   pub stays : (t : ℕ) → core.moment ≤ t → t < core.moment + time → t < 2 ^ 64 → JustStaysAt core t c
-  pub over : time < 3600000 → JustStaysAt core (core.moment + time) c → ⊥
+  pub over : time < 10000 → JustStaysAt core (core.moment + time) c → ⊥
 
--- no action is due for any of these connections for this long. If it is less than an hour, one is due then.
--- So it is 0 if one is due now
+-- no action is due for any of these connections for this long, which is at most ten seconds. If it is less, one
+-- is due then. So it is 0 if one is due now
 pub record AllStayFor (core : PacedHostCore) (sessions : List Session) (time : ℕ) : Type 0 where
-  pub most : time ≤ 3600000
+  pub most : time ≤ 10000
   pub stay : (t : ℕ) → core.moment ≤ t → t < core.moment + time → t < 2 ^ 64
       → All (JustStaysAt core t) sessions
-  pub over : time < 3600000 → (place : ℕ) × (c : Session) × (slice_get sessions place ≡ Some c)
+  pub over : time < 10000 → (place : ℕ) × (c : Session) × (slice_get sessions place ≡ Some c)
       × (JustStaysAt core (core.moment + time) c → ⊥)
 
 -- the longest wait of a sending host. It is a second if the host prints the progress, or if its peer's end
--- was seen. Otherwise it is an hour
+-- was seen. Otherwise it is ten seconds
 abbrev pub longest_wait : Bool → Option ℕ → ℕ
-longest_wait shows left = if shows then 1000 else (if is_some left then 1000 else 3600000)
+longest_wait shows left = if shows then 1000 else (if is_some left then 1000 else 10000)
 
 -- after a step a sending host waits this long, once, or not at all
 abbrev pub MayWait : Bool → Option ℕ → PacedHostCore → Poller → Poller → Type 0
@@ -64,7 +64,7 @@ MayWait shows left core old new = (new ≡ old)
     ⊎ ((time : ℕ) × IsSleep core (longest_wait shows left) time × WaitsOnce time old new)
 
 -- after a step a listening host waits this long, once, or not at all. It waits only while no action is due for
--- any connection and no link has anything to do
+-- any connection and no link has anything to do, and at most ten seconds
 abbrev pub MayRest : PacedHostCore → List Session → Poller → Poller → Type 0
 MayRest core sessions old new = (new ≡ old)
     ⊎ ((rest time : ℕ) × AllStayFor core sessions rest × IsSleep core rest time × WaitsOnce time old new)

@@ -10,9 +10,7 @@ use crate::paced_host_core::PacedHostCore;
 use crate::sessions::{
     FIRST_DATA_TIMEOUT, KEEPALIVE_AFTER, LINGER, Phase, Session, SessionAction, session_action,
 };
-
-/// The longest wait, in milliseconds.
-const LONG: u64 = 3_600_000;
+use ipx_sockets::LONGEST;
 
 /// Returns the action that is due for a connection of a host now.
 pub fn action_in(core: &PacedHostCore, session: &Session) -> SessionAction
@@ -54,16 +52,17 @@ fn stay_of(core: &PacedHostCore, session: &Session) -> u64
         Phase::Ended => session.heard.checked_add(LINGER),
     };
     match end {
-        Some(end) => end.saturating_sub(core.moment()).min(LONG),
-        None => LONG,
+        Some(end) => end.saturating_sub(core.moment()).min(LONGEST),
+        None => LONGEST,
     }
 }
 
-/// Returns how long no connection needs an action, in milliseconds. It is at most an hour.
+/// Returns how long no connection needs an action, in milliseconds. It is at most
+/// ten seconds, after which the host looks again whether a count is to be logged.
 pub fn rest_of(core: &PacedHostCore, sessions: &[Session]) -> u64
     ensures { AllStayFor core.now sessions.now result }
 {
-    let mut least = LONG;
+    let mut least = LONGEST;
     for session in sessions {
         least = least.min(stay_of(core, session));
     }

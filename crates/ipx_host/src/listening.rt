@@ -240,7 +240,8 @@ impl<'a, R: Net + Log + Clock> ListeningHost<'a, R> {
         ensures peers { self.new.station.host_socket.ports.peers ≡ self.old.station.host_socket.ports.peers }
         ensures access { map access_by self.new.station.host_socket.ports.device.access_lists.items
             ≡ map access_by self.old.station.host_socket.ports.device.access_lists.items }
-        // The host waits only while no link has anything to do and no connection needs an action.
+        // The host waits only while no link has anything to do and no connection needs an action,
+        // and at most ten seconds. So what is due to be logged does not wait for longer.
         ensures rests { MayRest self.new.station.core self.new.sessions.held.items
             self.old.station.poller self.new.station.poller }
         // It stops because it can't wait exactly if it waits in this step, and that fails.

@@ -29,6 +29,7 @@ use crate::running_host::RunningHost;
 use crate::send_outcome::{SendOutcome, ended_by, verdict_of};
 use crate::start::StartFault;
 use ipx_config::{HostConfig, dialed_ip};
+use ipx_sockets::LONGEST;
 use ipx_wire::Address;
 use log::Log;
 use spx_link::State;
@@ -43,8 +44,6 @@ const CLOSE_TIMEOUT: u64 = 6000;
 
 /// The time between two lines of progress, and the longest wait meanwhile, in milliseconds.
 const SECOND: u64 = 1000;
-
-const LONG: u64 = 3_600_000;
 
 /// A host that sends.
 pub struct SendingHost<'a, R: Clock> {
@@ -221,14 +220,15 @@ impl<'a, R: Net + Log + Clock + Eprint> SendingHost<'a, R> {
         Ok(turn.active | fed)
     }
 
-    /// Returns the longest wait, in milliseconds.
+    /// Returns the longest wait, in milliseconds. It is at most ten seconds, after which the host
+    /// looks again whether a count is to be logged.
     fn longest(&self) -> u64
         ensures { result ≡ longest_wait self.now.shows self.now.left }
     {
         if self.shows || self.left.is_some() {
             SECOND
         } else {
-            LONG
+            LONGEST
         }
     }
 

@@ -17,7 +17,10 @@ NAMED = {"by-node": [f"{NETWORK} {node('127.0.1.131')}", "00000045"], "by-networ
 ONCE, SENDER = ("127.0.1.136", "127.0.1.137"), "127.0.1.139"
 CROWDED = "127.0.1.138"
 SILENT, ASKING = [f"127.0.1.{number}" for number in range(142, 146)], "127.0.1.146"
-CALLING = [address for pair in [*FROM.values(), ONCE] for address in pair] + [SENDER, CROWDED, *SILENT, ASKING]
+# A listener that one calls who never speaks, and to which nobody else sends: the call is given up after six seconds, and
+# logged ten seconds later or sooner.
+QUIET, LOGGED = "127.0.1.147", 18
+CALLING = [address for pair in [*FROM.values(), ONCE] for address in pair] + [SENDER, CROWDED, *SILENT, ASKING, QUIET]
 # If all slots are taken by some who never speak, each of them keeps its own for HELD seconds. The request that then evicts
 # one is not answered, but the next one is, half a second later. Times are without those for which the machine denied the
 # listener a processor.
@@ -87,6 +90,25 @@ def crowd(sites, ends):
     return ask(ASKING, CROWDED, sites.port, listener), listener
 
 
+def start_quiet(sites, one, ip):
+    """A listener that one calls who never speaks, and to which nobody else sends."""
+    sites.host("quiet-listener", NETWORK, QUIET, "127.0.1.89", "4002", listed("peers", [ip]))
+    listener = sites.start_listener(name="quiet-listener")
+    until(listener.said, 5)
+    call(one, ip, QUIET, sites.port, 1)
+    return listener, Watch(listener.popen.pid)
+
+
+def check_quiet(sites, listener, watch):
+    """What is due is logged, though nothing comes that wakes the listener."""
+    line = "[WARN  ipx] 1 connection never sent data (1 since the start)"
+    while line not in listener.said() and watch.seconds() < LOGGED:
+        time.sleep(0.1)
+    sites.check(f"one call that is not followed by anything is logged within {LOGGED} seconds, though nothing more comes",
+                line in listener.said(), str(listener.said()[-2:]))
+    listener.end()
+
+
 def start_silent(sites):
     """Listeners that are called by some who never speak, and then by a true sender."""
     named = [f"{NETWORK} {node(ip)}" for ip in [ONCE[1], *SILENT[:2]]]
@@ -95,6 +117,7 @@ def start_silent(sites):
     for name, sender in {"once": ONCE[1], "crowded": SENDER}.items():
         sites.host(f"{name}-sender", NETWORK, sender, "127.0.1.89", "4003")
     data, ends = some_bytes(sites.seed + 10, 20_000), [(bound(ip, sites.port), ip) for ip in SILENT]
+    quiet = start_quiet(sites, *ends[0])
     once = sites.start_listener("--once", name="once-listener")
     until(once.said, 5)
     for number in range(1, 101):
@@ -105,10 +128,10 @@ def start_silent(sites):
         time.sleep(0.005)
     took, crowded = crowd(sites, ends)
     true = sites.start_sender("crowded-sender", [data], NETWORK, CROWDED)
-    return data, ends, (once, first), (crowded, true, took)
+    return data, ends, (once, first), (crowded, true, took), quiet
 
 
-def check_silent(sites, data, ends, once, crowded):
+def check_silent(sites, data, ends, once, crowded, quiet):
     """The true senders have their places."""
     sites.check_transfer("a sender to a listener with --once that never speaking ones and strangers called, 100 times each",
                          *once, data)
@@ -121,5 +144,6 @@ def check_silent(sites, data, ends, once, crowded):
     told = [line for line in listener.said() if re.search(r"\d+ connections? never sent data \(", line)]
     sites.check("those who never spoke are counted", bool(told), str(listener.said()[-2:]))
     listener.end()
+    check_quiet(sites, *quiet)
     for one, _ in ends:
         one.close()
