@@ -6,12 +6,8 @@ use Rattle.std.specs.Cmp.Lexicographic.{pointwise}
 use Rattle.std.specs.Coded.{Unit-prop}
 use Rattle.std.proofs.Props.{props}
 use Rattle.spx_link.specs.Offer.{offer_link}
-use Rattle.spx_link.specs.declared.fault.OfferFault.TheVariants as OfferFaults
 use Rattle.spx_link.specs.declared.state.State.{State}
 use Rattle.spx_link.specs.declared.state.State.TheVariants as States
-use Rattle.spx_messages.specs.declared.message_fault.MessageFault.TheVariants as MessageFaults
-use Rattle.spx_messages.specs.declared.fault.EndFault.{EndFault}
-use Rattle.spx_messages.specs.declared.fault.EndFault.TheVariants as EndFaults
 use Rattle.spx_messages.specs.Cut.{cut_of}
 use Rattle.spx_messages.specs.Changes.{ChangesEnd, ReleasesEnd, SameBut}
 use Rattle.spx_messages.specs.EndpointView.{EndpointView, Held, held_at}
@@ -312,21 +308,17 @@ Asks now old new c c' =
 abbrev pub TakesMessages : EndpointView → ℕ → Type 0
 TakesMessages e id = (h : Held) × (held_at e id ≡ Some h) × (h.link.state ≡ States.Live)
 
--- it is probed if its link takes messages, and if not out of memory
+-- whether memory was refused for the message to a connection. If so, its link takes messages, and nothing was
+-- queued. If not, it is probed if its link takes messages
 abbrev pub IsAskedUnless : Bool → EndpointView → EndpointView → Session → Session → Type 0
-IsAskedUnless refused old new c c' =
-    TakesMessages old c.id → refused ≡ false → QueuesNothing old new c c'
+IsAskedUnless true old new c c' = TakesMessages old c.id × SameBut old new × (c'.phase ≡ c.phase)
+IsAskedUnless false old new c c' = TakesMessages old c.id → QueuesNothing old new c c'
 
--- the same for the connection at a place. If out of memory, that is counted
+-- the same for the connection at a place. If memory was refused, that is counted
 abbrev pub AsksOrCounts : EndpointView → EndpointView → Session → ℕ → List Session → List Session → ℕ → ℕ → Type 0
 AsksOrCounts old new c place sessions sessions' count count' = (refused : Bool) × (c' : Session)
     × (sessions' ≡ slice_set sessions place c') × IsAskedUnless refused old new c c'
     × (count' ≡ raised_if refused count)
-
--- a message was refused as out of memory
-abbrev pub IsOutOfMemory : EndFault → Type 0
-IsOutOfMemory f = (f ≡ EndFaults.Message MessageFaults.OutOfMemory)
-    ⊎ (f ≡ EndFaults.Offer OfferFaults.OutOfMemory)
 
 -- with `once` a connection that was heard from is the only one. If its end was taken, nothing is left to
 -- write

@@ -28,7 +28,8 @@ Parts once c place fate old new sessions sessions' counts counts' stop = LetsLin
     × (sessions' ≡ remove sessions place) × (stop ≡ parted once fate c.phase) × (counts' ≡ with_gone c counts)
 
 -- what is done with the connection at a place, by its action. One that is to be asked is asked if its link takes
--- messages, unless memory is refused, which is counted. Only if it is not asked, its silence starts again
+-- messages, unless memory is refused. That is counted, and nothing else is. Only if it is not asked, its silence
+-- starts again
 abbrev pub DoesAction : Bool → ℕ → Session → ℕ → SessionAction → EndpointView → EndpointView → List Session → List Session → ListenerCounts → ListenerCounts → Option ListenOutcome → Type 0
 DoesAction once now c place ActionsOfSessions.Stays old new sessions sessions' counts counts' stop =
     (new ≡ old) × (sessions' ≡ sessions) × (stop ≡ None) × (counts' ≡ counts)

@@ -3,12 +3,12 @@
 
 ghost use Rattle.std.specs.Prelude.{◌≡◌, ◌↔◌, ◌<◌, ◌≤◌, ◌&&◌, true, count_by, is_some, length, map, nat_lt, position, vec_capacity, IfSome, IsTrue};
 ghost use Rattle.std.specs.List.{list_any};
-ghost use Rattle.ipx_host.specs.Sessions.{Admits, Asks, Evicts, IsAskedUnless, HasNoPlaceFor, IsOutOfMemory, KeepsHeard, LetsLinkGo, LetsLinksGo, MakesSpace, goes_before, has_more, heard_by, has_spoken, is_at_limit, is_first_own, is_of_node, is_unanswered, is_own_silent, is_to_go, is_unheard_of, may_go, may_go_for, place_of_any, place_of_own, place_of_own_unanswered, place_to_free, protects, raised_if, session_at};
+ghost use Rattle.ipx_host.specs.Sessions.{Admits, Asks, Evicts, IsAskedUnless, HasNoPlaceFor, KeepsHeard, LetsLinkGo, LetsLinksGo, MakesSpace, TakesMessages, goes_before, has_more, heard_by, has_spoken, is_at_limit, is_first_own, is_of_node, is_unanswered, is_own_silent, is_to_go, is_unheard_of, may_go, may_go_for, place_of_any, place_of_own, place_of_own_unanswered, place_to_free, protects, raised_if, session_at};
 
 use crate::sessions::{Session, hear_one};
 use ipx_wire::{Address, Network};
-use spx_link::{OfferFault, State};
-use spx_messages::{EndFault, Endpoint, Message, MessageFault};
+use spx_link::State;
+use spx_messages::{Endpoint, Message};
 use std::alloc::Global;
 
 /// The most connections that a host holds.
@@ -540,24 +540,26 @@ pub fn count_if(more: bool, count: u64) -> u64
     if more { count.saturating_add(1) } else { count }
 }
 
-/// Whether a message was refused because memory ran out.
-fn is_out_of_memory(fault: EndFault) -> bool
-    ensures { IsTrue result ↔ IsOutOfMemory fault }
+/// Whether the link of an id takes messages.
+fn takes_messages(endpoint: &Endpoint, id: u16) -> bool
+    ensures { IsTrue result ↔ TakesMessages endpoint.now id }
 {
-    matches!(
-        fault,
-        EndFault::Message(MessageFault::OutOfMemory) | EndFault::Offer(OfferFault::OutOfMemory)
-    )
+    endpoint.state(id) == Ok(State::Live)
 }
 
 /// Probes a connection with a message of no bytes. A peer that is there acknowledges it; otherwise
-/// the link is Lost some five seconds later. If the message is refused, because memory ran out or
-/// the connection is ending, nothing is sent. The silence is then counted from now, and the
-/// connection is probed again later. Returns whether memory ran out.
+/// the link is Lost some five seconds later. If its link takes no messages, or memory is refused,
+/// nothing is sent. The silence is then counted from now, and the connection is probed again
+/// later. Returns whether memory was refused.
 pub fn ask(alloc: Global, endpoint: &mut Endpoint, session: &mut Session, moment: u64) -> bool
     ensures asks { Asks moment endpoint.old endpoint.new session.old session.new }
+    // Memory was refused exactly if the link takes messages, and the message was not queued.
     ensures asked { IsAskedUnless result endpoint.old endpoint.new session.old session.new }
 {
+    if !takes_messages(endpoint, session.id) {
+        session.heard = moment;
+        return false;
+    }
     let nothing = Message {
         stream: 0,
         body: Vec::new(alloc),
@@ -567,9 +569,9 @@ pub fn ask(alloc: Global, endpoint: &mut Endpoint, session: &mut Session, moment
             session.phase = session.phase.asked();
             false
         }
-        Err(fault) => {
+        Err(_) => {
             session.heard = moment;
-            is_out_of_memory(fault)
+            true
         }
     }
 }
