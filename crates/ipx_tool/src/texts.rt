@@ -222,8 +222,9 @@ Reads the configuration file HOST, in TOML:
   allow     a list of networks, or of networks with a node, that may connect; default: all
   accept    \"peers\" (default) or \"any\": whose packets are accepted
 The bytes of each message go to standard output once it is complete, with nothing between messages.
-Up to 16 connections are open at once. If standard output is not read, senders have to wait, and
-stay connected.";
+Up to 16 connections are open at once. If standard output is a pipe or a socket to which no other
+process writes, and it is not read, senders have to wait, and stay connected. A terminal that is
+stopped makes the host wait, and lose its connections.";
 
 pub const LISTEN_STATUSES: &str = "\
 It runs until it is stopped, or with --once until the first connection from which anything arrives
@@ -254,9 +255,10 @@ and a line on standard error says how much was acknowledged; reading the input f
 cannot be bound, or out of memory. 2: an argument or the file has a fault, or NODE is on the host's
 own network and is no host's IP address, which one line reports, and nothing was bound.
 
-A connection is lost five to thirty seconds after the last packet of a host that acknowledges
-nothing. There is no limit while a host that still answers has no buffers free, and no wait once
-everything is acknowledged.
+A connection is lost after ten timeouts in a row in which nothing new is acknowledged. Each lasts
+up to 4 seconds, or up to 60 if the path is so long: some 22 to 36 seconds at usual round trips.
+There is no limit while a host that still answers has no buffers free, and no wait once everything
+is acknowledged.
 
 Example:
   $ ipx send host.toml 00000033 00007f000104 4002 < file";
