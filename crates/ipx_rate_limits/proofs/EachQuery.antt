@@ -1,6 +1,6 @@
 -- No query escapes the limits.
 use Rattle.std.proofs.Common.{◌≡◌, ◌∙◌, ◌⊎◌, ℕ, Bool, true, false, not, List, Some, slice_get, inl, inr, refl, sym, ap, subst, if◌then◌else◌}
-use Rattle.std.specs.Prelude.{◌==◌, ◌||◌, ◌&&◌}
+use Rattle.std.specs.Prelude.{◌==◌, ◌||◌, ◌&&◌, nat_lt}
 use Rattle.std.proofs.lemmas.Bool.{and_parts}
 use Rattle.std.proofs.lemmas.Option.{same_Some}
 use Rattle.ipx_wire.specs.Assigned.{local_network, netbios_propagation_type}
@@ -51,9 +51,10 @@ goes_on false false false control a b c = refl
 
 directed_goes_on : (at : Port) (groups : Bool) (h : IpxHeader) → is_directed at groups h ≡ true → class_of at h ≡ classes.Forward
 directed_goes_on at groups h is =
-    let last = and_parts (not (h.kind == netbios_propagation_type) && is_for_many groups h.to.node && not (h.to.network.0 == local_network)) (not (h.to.network.0 == at.network.0)) is in
-    let third = and_parts (not (h.kind == netbios_propagation_type) && is_for_many groups h.to.node) (not (h.to.network.0 == local_network)) last.0 in
-    let first = and_parts (not (h.kind == netbios_propagation_type)) (is_for_many groups h.to.node) third.0 in
+    let last = and_parts (not (h.kind == netbios_propagation_type) && nat_lt h.hops 15 && is_for_many groups h.to.node && not (h.to.network.0 == local_network)) (not (h.to.network.0 == at.network.0)) is in
+    let third = and_parts (not (h.kind == netbios_propagation_type) && nat_lt h.hops 15 && is_for_many groups h.to.node) (not (h.to.network.0 == local_network)) last.0 in
+    let second = and_parts (not (h.kind == netbios_propagation_type) && nat_lt h.hops 15) (is_for_many groups h.to.node) third.0 in
+    let first = and_parts (not (h.kind == netbios_propagation_type)) (nat_lt h.hops 15) second.0 in
     goes_on (h.kind == netbios_propagation_type) (h.to.network.0 == local_network) (h.to.network.0 == at.network.0) (class_on_network at h) first.0 third.1 last.1
 
 module _ (one_ipx : OneIpx) (one_rip : OneRip) (one_sap : OneSap) where

@@ -61,7 +61,7 @@ UNQUOTED = ('invalid value, expected a string, number, boolean, date-time, array
 QUOTED, NO_QUOTES = "; write it in double quotes", "; write it without quotes"
 NO_IP, NO_PLACE, NO_NETWORK = (f"is no valid {what}" for what in ("IP address", "address:port", "network"))
 NO_TEXT = "is no text in double quotes"
-TWICE, OWN_END, AT_WIRE = "is listed twice", "is the port's own address", "127.0.1.1:20999"
+TWICE, OWN_END, AT_WIRE = "is listed twice", "is the port's own address", "127.0.1.2:20996"
 MANY = "the list has 257 entries"
 UNCLOSED = "invalid string; its closing quote is missing"
 COMMA = "missing comma between array elements, expected `,` or `]`"
@@ -229,7 +229,8 @@ ROUTER_FILES = [
     (changed(WIRE, "remotes", '["127.0.1.3:0"]'), f'port 1: remotes: expected {ENDS}; "127.0.1.3:0" {NO_PLACE}'),
     (changed(WIRE, "remotes", '["127.0.1.3:20998", "127.0.1.3:20997", "127.0.1.3:20998"]'),
      f'port 1: remotes: expected {ENDS}; "127.0.1.3:20998" {TWICE}'),
-    (changed(WIRE, "remotes", f'["127.0.1.3:20998", "{AT_WIRE}"]'), f'port 1: remotes: expected {ENDS}; "{AT_WIRE}" {OWN_END}'),
+    (changed(changed(changed(WIRE, "address", '"127.0.1.2"'), "udp_port", "20996"), "remotes", f'["127.0.1.3:20998", "{AT_WIRE}"]'),
+     f'port 1: remotes: expected {ENDS}; "{AT_WIRE}" {OWN_END}'),
     (changed(WIRE, "remotes", str([f"127.0.1.3:{1 + it}" for it in range(257)]).replace("'", '"')), f"port 1: remotes: expected {ENDS}; {MANY}"),
     (WIRE + "node = \"020000000022\"\n", f"port 1: node: expected {STATION}"),
     (WIRE + "node = \"03:00:00:00:00:22\"\n", f"port 1: node: expected {STATION}"),
