@@ -122,8 +122,7 @@ pub fn listened_output_is_input()
     senders_hand_in();
 }
 
-/// The same by one clock, with premises that an operator can judge: nothing arrives except what
-/// hosts and routers sent, no id is given twice at one network and node, all that a connection
+/// The same by one clock, with these premises: nothing arrives except what hosts and routers sent, no id is given twice at one network and node, all that a connection
 /// reads was sent by a host at most a second before, and no host gives 32,768 new units within any
 /// second.
 pub fn timely_input_is_read()

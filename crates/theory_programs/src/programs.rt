@@ -57,7 +57,8 @@ pub fn listen<R: Net + Log + Files + Clock + Eprint, W: Write>(
 }
 
 /// Whatever a round does to the core of `ipx route` is calls, which received what its ports gave, and
-/// gave what was sent. Whatever a run does is calls too.
+/// gave what was sent. At a fault the last datagram may be left out, and what was given last not be
+/// sent. Whatever a run does is calls too.
 pub fn rounds_are_calls<R: Clock>()
     ensures round { RoundsAreCalls R }
     ensures run { RunsAreCalls R }
