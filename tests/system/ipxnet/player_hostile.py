@@ -23,6 +23,8 @@ FORGERIES = 500
 PLACES, OF_ADDRESS, OTHER = 1_000, 16, "127.0.6.54"
 ROOM_FOR = OF_ADDRESS + 1
 PER_TURN, REGISTER_SECONDS = 20, 3.5
+# The least time between two packets of a player to all, in seconds: half as many as a player may send.
+EACH_TO_ALL = 1 / 64
 # Whose address somebody forges gets so many datagrams at most for each registration in its name: the answer, and two pings.
 OF_EACH = 3
 # The last ping of who registered and shows nothing comes 8.5 seconds after that.
@@ -73,12 +75,18 @@ class Pair:
     def __init__(self, clients, networks=None):
         self.clients, self.networks, self.sent = clients, networks, [[], []]
         self.came, self.other = [[], []], 0
+        # When each sent to all last.
+        self.to_all = [0.0, 0.0]
 
     def send(self, who):
-        """One of them sends to the other, each tenth time to all."""
+        """One of them sends to the other, each tenth time to all, but no more often than EACH_TO_ALL: a player may send 128 a
+        second to all, and a fast machine sends more than ten times as much here."""
         giver, taker = self.clients[who], self.clients[1 - who]
-        number = len(self.sent[who])
-        to = (NETWORK, EVERYBODY if number % 10 == 9 else taker.node, "4001")
+        number, now = len(self.sent[who]), time.monotonic()
+        is_to_all = number % 10 == 9 and now - self.to_all[who] >= EACH_TO_ALL
+        if is_to_all:
+            self.to_all[who] = now
+        to = (NETWORK, EVERYBODY if is_to_all else taker.node, "4001")
         packet = ipx(4, to, (NETWORK, giver.node, "4001"), b"move %d" % number)
         self.sent[who].append(packet)
         giver.send(packet)
