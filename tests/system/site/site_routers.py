@@ -10,7 +10,7 @@ from site_world import bound, node, port_table, until
 NEAR, FAR = "127.0.1.170", "127.0.1.173"
 NAMED, HOST, AWAY = "127.0.1.171", "127.0.1.172", "127.0.1.174"
 # A third network, whose port accepts anybody and has a peer; somebody else sends to it too.
-OPEN, PEER, STRANGER = "127.0.1.99", "127.0.1.199", "127.0.1.229"
+OPEN, PEER, STRANGER = "127.0.1.175", "127.0.1.199", "127.0.1.229"
 NAMING = [NEAR, FAR, NAMED, HOST, AWAY, OPEN, PEER, STRANGER]
 NAME = "n1"
 EVERY_NODE = "f" * 12
