@@ -72,18 +72,40 @@ def link_kit(at, rt):
 
 # How `rt ci` shares the processors. Its own way gives a crate's proof as many processes as are idle when it begins. A crate keeps
 # that number, so that one that began beside others is proved by one process, with the other processors idle at its end. And a
-# crate begins only if a high guess of its memory is free. Here there are more processes than processors, and the crate for which
-# the longest chain of others waits gets up to four of them. These are the texts of the kits that are known, and what is there instead.
+# crate begins only if a guess of its memory is free, which is three to six times what it takes. Here there are more processes than
+# processors, and that guess is divided by 3.5. The crate for which the longest chain of others waits begins at once, with four
+# processes, and each other one gets up to two, at a lower priority. The program is built by LLVM alone: the gate builds it by
+# Rattle's own compiler too. These are the texts of the kits that are known, and what is there instead.
+LONGEST = "behind[key] >= max(behind[it] for it in [key, *left, *(one for one, _, _ in running.values())])"
+AT_NICE = """def at_nice(nice, call, *given):
+    found = []
+
+    def run():
+        here = os.PRIO_PROCESS, threading.get_native_id()
+        os.setpriority(*here, max(nice, os.getpriority(*here)))
+        found.append(call(*given))
+
+    by = threading.Thread(target=run)
+    by.start()
+    by.join()
+    return found[0]
+
+
+"""
 SHARES = (
     # kit 13f
-    (("lanes, memory, behind = fixed or processors(),", "lanes, memory, behind = fixed or 2 * processors(),"),
+    (("lanes, memory, behind = fixed or processors(), 0.85 * free(),", "lanes, memory, behind = fixed or 2 * processors(), 3 * free(),"),
+     ("if idle > 0 and (fixed", f"if (idle > 0 or key in proofs and {LONGEST}) and (fixed"),
      ("min(4, idle // others, 1 + int((room / needs - 1) / 0.6)) if not fixed",
-      "min(4, idle if key in proofs and tasks[key][1] else idle // others, 1 + int((room / needs - 1) / 0.6)) if not fixed")),
+      f"min(4 if {LONGEST} else 2, 1 + int((room / needs - 1) / 0.6)) if not fixed"),
+     ("jobs = max(1, spare)", f"jobs, nice = max(1, spare), 0 if {LONGEST} else 10"),
+     ("pool.submit(call, given, jobs)", "pool.submit(at_nice, nice, call, given, jobs)"),
+     ("def in_lanes(tasks):", f"{AT_NICE}def in_lanes(tasks):"),
+     (' or self.compile_by("rattle", words, to)', "")),
     # kit 13b
     (("lanes, memory, behind = fixed or processors(), 0.85 * free(),", f"lanes, memory, behind = fixed or max(1, min(processors() + 2, free() // {ONE_CHECK})), 10 ** 12,"),
      ("min(4, idle // (len(ready) - at), 1 + int((room / needs - 1) / 0.6))",
-      "min(4, idle if behind[key] >= max(behind[it] for it in [key, *left, *(one for one, _, _ in running.values())])"
-      " else idle // (len(ready) - at))")),
+      f"min(4, idle if {LONGEST} else idle // (len(ready) - at))")),
 )
 
 

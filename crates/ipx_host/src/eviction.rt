@@ -155,9 +155,9 @@ fn has_more(sessions: &[Session], own: Network, from: &Address, other: &Address)
 }
 
 /// Whether a connection that has sent no data yet protects another from being evicted for a request.
-/// It does if it is of the node that asks, or of another node than that connection. So a flood of
-/// requests evicts at most one connection in 1.5 seconds, and protects none of the node that sends
-/// it.
+/// It does if it is of the node that asks, or of another node than that connection. So a flood in
+/// the name of one node evicts at most one connection in 1.5 seconds. One in two nodes' names evicts
+/// at most five, which then protect each other.
 fn protects(own: Network, asker: &Address, session: &Session, other: &Session) -> bool
     ensures { result ≡ protects own asker.now session.now other.now }
 {

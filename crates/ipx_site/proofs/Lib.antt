@@ -22,3 +22,4 @@ pub mod RanRounds
 pub mod TextRuns
 pub mod IndexMarks
 pub mod Registered
+pub mod LastFlood

@@ -19,7 +19,7 @@ use Rattle.ipx_site.specs.PortsView.{ways_in}
 use Rattle.ipx_site.specs.RouterMetrics.{CountsRound}
 use Rattle.ipx_site.specs.RouterRounds.{IsRound, SleepsAfter}
 use Rattle.ipx_site.specs.RouterWork.{WorksInRound}
-use Rattle.ipx_site.specs.RoutingRuns.{HasDoneNothing, KnowsNothing, Rounds, RoutesWell, RunsTo, StartsBy, StartsByFile, TakesRound}
+use Rattle.ipx_site.specs.RoutingRuns.{HasDoneNothing, KnowsNothing, Rounds, RoutesWell, RunsTo, StartsBy, StartsByFile, TakesRound, WritesFilesOf}
 use Rattle.ipx_config.specs.Site.{IsSiteText}
 use Rattle.ipx_site.specs.RouterMarks.{AreIndicesDistinct}
 use Rattle.ipx_site.specs.SiteMarks.{AfterMarks, marks_in, port_fds}
@@ -81,11 +81,11 @@ pub started_by : {R E : Type 0} (secret : Secret) (known : List ClientPlace) (si
     → IfOk started (λ s. (s.core.ports ≡ checked_ports site.ports.items) × (s.core.drops ≡ nothing_dropped_yet))
     → IfOk started (λ s. (s.core.core.ports ≡ router_ports site.ports.items) × (s.core.core.buckets ≡ fresh_buckets (limits_of site.ports.items)))
     → IfOk started (λ s. ArePortsBound secret known site.ports.items s.ports) → IfOk started (λ s. s.ready.poll.trace.items ≡ map Watched (port_fds s.ports)) → IfOk started (λ s. s.clock.last ≡ 0) → IfOk started (λ s. s.asked ≡ 0) → IfOk started (λ s. IsUncounted s.core) → IfOk started (λ s. HasDoneNothing s)
-    → IfOk started (λ s. HasFilteredNothing s.ports.datagrams.device)
+    → IfOk started (λ s. HasFilteredNothing s.ports.datagrams.device) → IfOk started (λ s. WritesFilesOf site secret known s)
     → IfOk started (λ s. StartsBy site s)
-started_by secret known site (Ok s) ports nothing empty statics checks queriers bound watched clock asked uncounted idle unfiltered =
-    record { ports = ports; nothing = nothing; empty = empty; statics = statics; checks = checks; queriers = queriers; secret = secret; known = known; bound = bound; indices = subst (λ (it : List PortIndex). AreIndicesDistinct it) (sym bound.port_indices) (distinct site.ports.items); watched = watched; clock = clock; asked = asked; uncounted = uncounted; idle = idle; unfiltered = unfiltered }
-started_by secret known site (Err e) ports nothing empty statics checks queriers bound watched clock asked uncounted idle unfiltered = tt
+started_by secret known site (Ok s) ports nothing empty statics checks queriers bound watched clock asked uncounted idle unfiltered files =
+    record { ports = ports; nothing = nothing; empty = empty; statics = statics; checks = checks; queriers = queriers; secret = secret; known = known; bound = bound; indices = subst (λ (it : List PortIndex). AreIndicesDistinct it) (sym bound.port_indices) (distinct site.ports.items); watched = watched; clock = clock; asked = asked; uncounted = uncounted; idle = idle; unfiltered = unfiltered; files = files }
+started_by secret known site (Err e) ports nothing empty statics checks queriers bound watched clock asked uncounted idle unfiltered files = tt
 
 -- a router that started as its file says started as some file says
 pub starts_by_file : {R : Type 0} (loaded : Result RouterConfig ℕ) (result : Result (RunningRouter R) ℕ) → IfOk loaded (λ s. (text : List ℕ) × IsFileText text × IsSiteText text s)

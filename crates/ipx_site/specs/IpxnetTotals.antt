@@ -1,7 +1,8 @@
 -- Totals over the servers of a router's ports for ipxnet. Defined by this project.
-use Rattle.std.specs.Prelude.{ℕ, List, length, sum_by}
+use Rattle.std.specs.Prelude.{◌≡◌, ◌<◌, ◌≤◌, ℕ, All, List, ◌∷◌, ◌++◌, Option, Some, None, IfSome, length, nat_lt, sum_by, if◌then◌else◌}
 use Rattle.ipx_carrier.specs.Counting.{counted}
 use Rattle.ipxnet_server.specs.ServerHears.{ServerView}
+use Rattle.ipxnet_server.specs.declared.limiting.LimitedFlood.{LimitedFlood}
 
 -- how many clients all ports have
 abbrev pub client_count_in : List ServerView → ℕ
@@ -21,3 +22,18 @@ rate_limited_in servers = counted (sum_by (λ s. s.counts.rate_limited) servers)
 
 abbrev pub busy_in : List ServerView → ℕ
 busy_in servers = counted (sum_by (λ s. s.counts.busy) servers)
+
+-- the later of two floods, if there is any; the second one if they are of one time
+abbrev pub later_flood : Option LimitedFlood → Option LimitedFlood → Option LimitedFlood
+later_flood None b = b
+later_flood (Some a) None = Some a
+later_flood (Some a) (Some b) = if nat_lt b.at a.at then Some a else Some b
+
+-- the last flood of a player over its limit at any port. Servers before its own have none that is later, and those
+-- after it none that is as late
+abbrev pub IsLastFlood : List ServerView → Option LimitedFlood → Type 0
+IsLastFlood servers None = All (λ s. s.limited ≡ None) servers
+IsLastFlood servers (Some flood) = (front : List ServerView) × (server : ServerView) × (back : List ServerView)
+    × (servers ≡ front ++ server ∷ back) × (server.limited ≡ Some flood)
+    × All (λ s. IfSome s.limited (λ other. other.at ≤ flood.at)) front
+    × All (λ s. IfSome s.limited (λ other. other.at < flood.at)) back

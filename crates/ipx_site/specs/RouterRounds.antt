@@ -29,7 +29,7 @@ AsksAgain now times times_after old new =
 -- that time, and send the pings that are due. It then takes a batch of at most 32 turns with such a stopped clock.
 -- In each turn its ports receive and send as `ReceivesAtPort` and `SendsByPort` say, their count of drops never
 -- falls, and a port loses its mark only if it gave nothing. Its core hears static entries when due, drops what
--- fails a source check, and limits general queries
+-- fails a source check, and limits queries and directed broadcasts
 abbrev pub IsRound : {K : Type 0} {gd : OfDevice.Ghosts (SourceFilter UdpSockets)} {ge : OfSockets.Ghosts EthernetSockets} {gl : OfPlaces.Ghosts ServerSockets} → K → K → (K → ℕ → K → Type 0) → (K → ℕ → K → Type 0) → SitePortsRun gd ge gl → SitePortsRun gd ge gl → ℕ → ℕ → SiteCore → SiteCore → ℕ → Batch → Type 0
 IsRound {K} {gd} {ge} {gl} clock clock_after stops tells ports ports_after times times_after old new moment b = (now : ℕ) × (tick : K)
     × (mid : SiteCore) × (begun : SitePortsRun gd ge gl) × stops clock now tick

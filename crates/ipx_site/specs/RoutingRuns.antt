@@ -8,6 +8,7 @@ use Rattle.ipx_carrier.specs.Turns.{peers_of}
 use Rattle.ipx_carrier.specs.declared.report.Batch.{Batch}
 use Rattle.ipx_router.specs.RouterView.{RouterView}
 use Rattle.ipx_source_checks.specs.SourceChecks.{nothing_dropped_yet}
+use Rattle.ipx_site.specs.ClientsFile.{written_at_start}
 use Rattle.ipx_site.specs.IdleTime.{IsDue, deadlines, happened}
 use Rattle.ipx_site.specs.KindPorts.{checked_ports, ArePortsBound}
 use Rattle.ipxnet_server.specs.declared.port.Secret.{Secret}
@@ -49,8 +50,21 @@ pub record HasDoneNothing {R : Type 0} (r : RunningRouter R) : Type 0 where
   pub drops : r.drops ≡ no_drops_logged
   pub written : r.written ≡ None
 
+-- a router writes the files that its own file names. The file of its secret is to hold this secret, and lists these
+-- clients
+pub record WritesFilesOf {R : Type 0} (site : RouterConfig) (secret : Secret) (known : List ClientPlace)
+    (r : RunningRouter R) : Type 0 where
+  pub metrics_file : r.metrics_file ≡ site.metrics_file
+  pub tables_file : r.tables_file ≡ site.tables_file
+  pub secret_file : r.clients_file.path ≡ site.secret_file
+  pub kept_secret : r.clients_file.secret ≡ secret
+  pub listed : r.clients_file.listed.items ≡ known
+  pub looked : r.clients_file.looked ≡ None
+  pub written : r.clients_file.written ≡ written_at_start known
+
 -- a router has started as its file says. It has the ports of the file, each with its socket and an index of
--- its own, and all ipxnet ports with one secret and notes of some clients. It knows nothing of other routers, has
+-- its own, and all ipxnet ports with one secret and notes of some clients. It has the files of its file, and that secret
+-- and these clients for one of them. It knows nothing of other routers, has
 -- nothing to send, and is to hear its static entries. It checks sources at its ports, and has dropped nothing. The limits at its ports are
 -- those of their kinds and of the file, and no query has come. Its poller watches the descriptors of
 -- all its sockets, by kind, and has not waited. Its clock begins at 0, and it has not repeated its requests. It
@@ -67,6 +81,7 @@ pub record StartsBy {R : Type 0} (site : RouterConfig) (first : RunningRouter R)
   pub secret : Secret
   pub known : List ClientPlace
   pub bound : ArePortsBound secret known site.ports.items first.ports
+  pub files : WritesFilesOf site secret known first
   pub unfiltered : HasFilteredNothing first.ports.datagrams.device
   pub indices : AreIndicesDistinct first.ports.port_indices.items
   pub watched : first.ready.poll.trace.items ≡ map Watched (port_fds first.ports)

@@ -1,10 +1,15 @@
 -- The file of a router's secret and of its ipxnet clients. Defined by this project.
-use Rattle.std.specs.Prelude.{Vec, ◌≡◌, ◌⊎◌, ℕ, List, [], ◌∷◌, ◌++◌, All, Ok, Option, Some, None, drop, length, min, take}
+use Rattle.std.specs.Prelude.{Vec, ◌≡◌, ◌⊎◌, ℕ, Bool, false, true, List, [], ◌∷◌, ◌++◌, All, Ok, Option, Some, None, drop, length, min, take}
 use Rattle.std.specs.Global.{Global}
 use Rattle.hex.specs.Hex.{decode_sized, encode_lower}
+use Rattle.ipx_config.specs.declared.site.PortConfig.{PortConfig}
+use Rattle.ipx_config.specs.declared.site.PortConfig.TheVariants as configs
 use Rattle.ipx_table_dump.specs.ClientsText.{IsClientPlace, IsClientsText, clients_text}
 use Rattle.ipx_table_dump.specs.declared.client_places.ClientPlace.{ClientPlace}
 use Rattle.ipxnet_server.specs.declared.port.Secret.{Secret}
+use Rattle.ipx_site.specs.declared.secret.SecretFault.{SecretFault}
+use Rattle.ipx_site.specs.declared.secret.SecretFault.TheVariants as faults
+use Rattle.ipx_site.specs.declared.secret_file.SavedClients.{SavedClients}
 use Rattle.ipx_site.specs.declared.secret_file.KeptText.{KeptText}
 use Rattle.ipx_site.specs.declared.secret_file.KeptText.TheVariants as Texts
 
@@ -37,3 +42,22 @@ SaysKept text Texts.None = (secret : Secret) → IsSecretText (first_line text) 
 -- the text that is written
 abbrev pub kept_text : Secret → List ClientPlace → List ℕ
 kept_text secret clients = encode_lower secret.0 ++ (10 ∷ clients_text clients)
+
+-- what a router keeps of a text: what it says, or the secret that it says and no client, if its list was cut
+abbrev pub IsKeptOf : List ℕ → SavedClients → Type 0
+IsKeptOf text kept =
+    SaysKept text (Texts.Whole kept) ⊎ (SaysKept text (Texts.Cut kept.secret) × (kept.clients.items ≡ []))
+
+-- why it keeps nothing of a text: its first line is no secret, or memory ran out
+abbrev pub IsSecretFaultOf : List ℕ → SecretFault → Type 0
+IsSecretFaultOf text faults.OutOfMemory = Unit {0}
+IsSecretFaultOf text (faults.Random error) = ⊥
+IsSecretFaultOf text (faults.File error) = ⊥
+IsSecretFaultOf text (faults.Read error) = ⊥
+IsSecretFaultOf text faults.Text = SaysKept text Texts.None
+
+-- it is a port for ipxnet
+abbrev pub is_ipxnet : PortConfig → Bool
+is_ipxnet (configs.Rfc1234 p) = false
+is_ipxnet (configs.Ethernet p) = false
+is_ipxnet (configs.Ipxnet p) = true

@@ -1,10 +1,11 @@
 //! Writing the file of a router's secret and of its ipxnet clients while it runs.
 
-ghost use Rattle.std.specs.Prelude.{◌≡◌, ◌≤◌, IfOk, IfSome, IsPermutation, length, map, string_bytes};
-ghost use Rattle.std.specs.List.{flat_map};
-ghost use Rattle.ipx_site.specs.ClientsFile.{AreHeardLast, IsLatestFirst, heard_of};
+ghost use Rattle.std.specs.Prelude.{◌≡◌, ◌≤◌, IfOk, IfSome, IsPermutation, List, None, false, length, map, string_bytes, true};
+ghost use Rattle.std.specs.List.{flat_map, list_all};
+ghost use Rattle.ipx_site.specs.ClientsFile.{AreHeardLast, IsLatestFirst, have_same_clients, heard_of, is_listed, written_at_start};
 ghost use Rattle.ipx_site.specs.Secrets.{kept_text};
 ghost use Rattle.ipx_table_dump.specs.ClientsText.{max_client_places};
+ghost use Rattle.ipx_table_dump.specs.declared.client_places.ClientPlace.{ClientPlace};
 
 use crate::router_ports::UdpRouterPorts;
 use crate::secret_file::{SavedClients, secret_to_text, write_private};
@@ -125,18 +126,35 @@ fn last_heard(alloc: Global, servers: &[IpxnetServer]) -> Result<Vec<ClientPlace
 }
 
 /// Whether a client is among these.
-fn is_listed(clients: &[ClientPlace], client: &ClientPlace) -> bool {
+fn is_listed(clients: &[ClientPlace], client: &ClientPlace) -> bool
+    ensures { result ≡ is_listed clients.now client.now }
+{
     clients.contains(client)
 }
 
+/// Whether each of these clients is among others.
+fn are_all_listed(clients: &[ClientPlace], others: &[ClientPlace]) -> bool
+    ensures { result ≡ list_all (is_listed others.now) clients.now }
+{
+    clients.iter().all(|client| is_listed(others, client))
+}
+
 /// Whether two lists, none of which has a client twice, have the same clients.
-fn are_same(one: &[ClientPlace], other: &[ClientPlace]) -> bool {
-    one.len() == other.len() && one.iter().all(|client| is_listed(other, client))
+fn are_same(one: &[ClientPlace], other: &[ClientPlace]) -> bool
+    ensures { result ≡ have_same_clients one.now other.now }
+{
+    one.len() == other.len() && are_all_listed(one, other)
 }
 
 impl ClientsFile {
     /// The file of this path, which lists these clients.
-    pub fn new(path: Option<String>, kept: SavedClients) -> ClientsFile {
+    pub fn new(path: Option<String>, kept: SavedClients) -> ClientsFile
+        ensures path { result.path ≡ path }
+        ensures secret { result.secret ≡ kept.secret }
+        ensures listed { result.listed ≡ kept.clients }
+        ensures looked { result.looked ≡ None }
+        ensures written { result.written ≡ written_at_start kept.clients.items }
+    {
         let written = if kept.clients.is_empty() {
             None
         } else {
@@ -163,8 +181,13 @@ impl ClientsFile {
         alloc: Global,
         servers: &[IpxnetServer],
     ) -> Result<Option<NewList>, AllocError>
-        ensures { IfOk result (λ list. IfSome list (λ n. AreHeardLast servers.now n.clients.items
+        ensures list { IfOk result (λ list. IfSome list (λ n. AreHeardLast servers.now n.clients.items
             × (string_bytes n.text ≡ kept_text self.now.secret n.clients.items))) }
+        ensures others { IfOk result (λ list. IfSome list (λ n.
+            have_same_clients n.clients.items self.now.listed.items ≡ false)) }
+        ensures same { IfOk result (λ list. list ≡ None → (clients : List ClientPlace)
+            × AreHeardLast servers.now clients
+            × (have_same_clients clients self.now.listed.items ≡ true)) }
     {
         let clients = last_heard(alloc, servers)?;
         if are_same(&clients, &self.listed) {

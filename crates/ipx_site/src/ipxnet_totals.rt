@@ -1,7 +1,7 @@
 //! Totals over the servers of a router's ports for ipxnet.
 
 ghost use Rattle.std.specs.Prelude.{◌≡◌};
-ghost use Rattle.ipx_site.specs.IpxnetTotals.{busy_in, client_count_in, full_in, full_of_address_in, rate_limited_in};
+ghost use Rattle.ipx_site.specs.IpxnetTotals.{IsLastFlood, busy_in, client_count_in, full_in, full_of_address_in, later_flood, rate_limited_in};
 
 use ipxnet_server::{IpxnetServer, LimitedFlood};
 
@@ -65,7 +65,9 @@ pub fn busy(servers: &[IpxnetServer]) -> u64
 }
 
 /// The last broadcast that was dropped because its player had sent too many.
-pub fn last_limited(servers: &[IpxnetServer]) -> Option<LimitedFlood> {
+pub fn last_limited(servers: &[IpxnetServer]) -> Option<LimitedFlood>
+    ensures { IsLastFlood servers.now result }
+{
     let mut last: Option<LimitedFlood> = None;
     for server in servers {
         last = later(last, server.last_limited());
@@ -73,8 +75,10 @@ pub fn last_limited(servers: &[IpxnetServer]) -> Option<LimitedFlood> {
     last
 }
 
-/// The later of two, if there is any.
-fn later(a: Option<LimitedFlood>, b: Option<LimitedFlood>) -> Option<LimitedFlood> {
+/// The later of two, if there is any; the second one if they are of one time.
+fn later(a: Option<LimitedFlood>, b: Option<LimitedFlood>) -> Option<LimitedFlood>
+    ensures { result ≡ later_flood a b }
+{
     match (a, b) {
         (Some(a), Some(b)) => Some(if a.at <= b.at { b } else { a }),
         (Some(a), None) => Some(a),

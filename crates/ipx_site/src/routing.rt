@@ -18,7 +18,7 @@ ghost use Rattle.ipx_rate_limits.specs.RateLimiter.{no_query_drops};
 ghost use Rattle.ipx_config.specs.StaticLists.{HearsAtPorts};
 ghost use Rattle.ipx_site.specs.StaticNeighbours.{IsToHear};
 ghost use Rattle.ipx_site.specs.NewRouters.{CountsNothing, HasFilteredNothing, IsUncounted};
-ghost use Rattle.ipx_site.specs.RoutingRuns.{HasDoneNothing, KnowsNothing, RoutesWell};
+ghost use Rattle.ipx_site.specs.RoutingRuns.{HasDoneNothing, KnowsNothing, RoutesWell, WritesFilesOf};
 ghost use Rattle.ipx_site.specs.SiteMarks.{port_fds};
 ghost use Rattle.ipx_sockets.specs.AccessLists.{AccessListPorts, access_by};
 ghost use Rattle.ipx_config.specs.SitePorts.{access_of, heard_at_port, named, router_ports, routers_at_port, site_peers, udp_ports};
@@ -402,6 +402,8 @@ pub(crate) fn start<'a, R: Net + Log + SystemClock>(
     // port its switch, and an ipxnet port its server with this secret and notes of these clients.
     ensures bound { IfOk result (λ s.
         ArePortsBound kept.secret kept.clients.items site.ports.items s.ports) }
+    // It has the files that its file names, and is to keep this secret and these clients.
+    ensures files { IfOk result (λ s. WritesFilesOf site kept.secret kept.clients.items s) }
     // The access lists have dropped and refused nothing.
     ensures unfiltered { IfOk result (λ s. HasFilteredNothing s.ports.datagrams.device) }
     // Its poller watches the descriptors of all ports, by kind, and has not waited.

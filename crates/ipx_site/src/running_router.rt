@@ -125,6 +125,9 @@ impl<'a, R: SystemClock> RunningRouter<'a, R> {
         ensures clock { result.clock ≡ parts.entry.clock }
         ensures ready { result.ready ≡ parts.entry.ready }
         ensures asked { result.asked ≡ 0 }
+        ensures metrics_file { result.metrics_file ≡ parts.entry.metrics_file }
+        ensures tables_file { result.tables_file ≡ parts.entry.tables_file }
+        ensures clients_file { result.clients_file ≡ parts.entry.clients_file }
         // It has counted, looked at, logged and written nothing.
         ensures totals { result.totals ≡ no_counts }
         ensures looked { (result.looked ≡ None) × (result.responses ≡ 0) }

@@ -1,7 +1,9 @@
 //! The secret of a router, from which its ipxnet ports make the nodes of their clients, and the
 //! clients that it had before it was started again.
 
-ghost use Rattle.std.specs.Prelude.{◌≡◌, IfErr};
+ghost use Rattle.std.specs.Prelude.{◌≡◌, ◌⊎◌, [], IfErr, IfOk, false, replicate};
+ghost use Rattle.std.specs.List.{list_any};
+ghost use Rattle.ipx_site.specs.Secrets.{IsKeptOf, IsSecretFaultOf, is_ipxnet};
 
 use crate::secret_file::{KeptText, SavedClients, kept_in, write_private};
 use ipx_config::{PortConfig, RouterConfig, tell_no_memory};
@@ -67,7 +69,10 @@ fn kept_of_text<R: Log>(
     path: &str,
     name: &str,
     text: &[u8],
-) -> Result<SavedClients, SecretFault> {
+) -> Result<SavedClients, SecretFault>
+    ensures kept { IfOk result (IsKeptOf text.now) }
+    ensures fault { IfErr result (IsSecretFaultOf text.now) }
+{
     match kept_in(alloc, text) {
         Ok(KeptText::Whole(kept)) => Ok(kept),
         Ok(KeptText::Cut(secret)) => {
@@ -131,7 +136,9 @@ fn tell_secret_fault<R: Eprint>(rt: &R, path: &str, name: &str, fault: SecretFau
 }
 
 /// Whether a router has an ipxnet port.
-fn has_ipxnet_port(ports: &[PortConfig]) -> bool {
+fn has_ipxnet_port(ports: &[PortConfig]) -> bool
+    ensures { result ≡ list_any is_ipxnet ports.now }
+{
     ports
         .iter()
         .any(|port| matches!(port, PortConfig::Ipxnet(_)))
@@ -147,7 +154,10 @@ pub(crate) fn kept_of<R: Files + Log + Eprint>(
     path: &str,
     site: &RouterConfig,
 ) -> Result<SavedClients, u8>
-    ensures { IfErr result (λ status. status ≡ 1) }
+    ensures fault { IfErr result (λ status. status ≡ 1) }
+    // Without an ipxnet port there is no secret.
+    ensures none { list_any is_ipxnet site.now.ports.items ≡ false → IfOk result (λ kept.
+        (kept.secret.0 ≡ replicate 32 0) × (kept.clients.items ≡ [])) }
 {
     if !has_ipxnet_port(&site.ports) {
         return Ok(SavedClients::new(alloc, Secret([0; 32])));

@@ -282,15 +282,16 @@ fn sends_to_peers_alone(rt: HostRuntime) -> Result<(), AllocError> {
     Ok(())
 }
 
-/// A packet of another node, and one of the peer itself, each with this body to this socket.
+/// A packet of another node, and one of the peer itself.
 const SOURCES: [(Network, Node); 2] = [(AWAY, OTHER), (HERE, PEER)];
 
-/// Whether the peer's packet with this source, body and socket is accepted, and what is counted.
+/// Whether the peer's packet with this source, body and sockets is accepted, and what is counted.
+/// The first socket is that of the destination.
 fn filtered(
     alloc: Global,
     routers: Vec<[u8; 4]>,
     source: (Network, Node),
-    socket: Socket,
+    sockets: (Socket, Socket),
     operation: u8,
 ) -> Result<(bool, FilterDrops), AllocError> {
     let header = IpxHeader {
@@ -299,12 +300,12 @@ fn filtered(
         to: Address {
             network: HERE,
             node: Node::BROADCAST,
-            socket,
+            socket: sockets.0,
         },
         from: Address {
             network: source.0,
             node: source.1,
-            socket,
+            socket: sockets.1,
         },
     };
     let mut bytes = [0; 32];
@@ -337,10 +338,10 @@ fn is_let(
     alloc: Global,
     routers: Vec<[u8; 4]>,
     source: (Network, Node),
-    socket: Socket,
+    sockets: (Socket, Socket),
     operation: u8,
 ) -> Result<bool, AllocError> {
-    let (heard, kept) = filtered(alloc, routers, source, socket, operation)?;
+    let (heard, kept) = filtered(alloc, routers, source, sockets, operation)?;
     assert_eq!(rt; kept.not_a_router.count, u64::from(!heard));
     assert!(rt; heard || kept.not_a_router.last == Some([10, 0, 0, 1]));
     assert_eq!(rt; kept.total(), u128::from(!heard));
@@ -358,37 +359,51 @@ fn names_both_networks(rt: HostRuntime) -> Result<(), AllocError> {
     let alloc = rt.alloc();
     for (node, mismatch) in [(PEER, Some(both)), (OTHER, None)] {
         let none = Vec::new(alloc);
-        let (heard, kept) = filtered(alloc, none, (AWAY, node), Socket::RIP, 1)?;
+        let (heard, kept) = filtered(alloc, none, (AWAY, node), (Socket::RIP, Socket::RIP), 1)?;
         assert!(rt; !heard);
         assert!(rt; kept.mismatch == mismatch);
     }
     Ok(())
 }
 
+/// The sockets of RIP and SAP, and one of programs.
+const SOCKETS: [Socket; 3] = [Socket::RIP, Socket::SAP, Socket(0x4002)];
+
+/// Whether a packet between these sockets is a response of RIP or SAP by either of them.
+fn is_response(sockets: (Socket, Socket), operation: u8) -> bool {
+    let has = |socket| sockets.0 == socket || sockets.1 == socket;
+    (has(Socket::RIP) && operation == 2) || (has(Socket::SAP) && (operation == 2 || operation == 4))
+}
+
 #[test]
 fn hears_all_of_a_router(rt: HostRuntime) -> Result<(), AllocError> {
     for source in SOURCES {
-        for socket in [Socket::RIP, Socket::SAP, Socket(0x4002)] {
-            for operation in 1..5 {
-                let routers = vec![in rt.alloc(); [10, 0, 0, 2], [10, 0, 0, 1]]?;
-                assert!(rt; is_let(&rt, rt.alloc(), routers, source, socket, operation)?);
+        for to in SOCKETS {
+            for from in SOCKETS {
+                for operation in 1..5 {
+                    let routers = vec![in rt.alloc(); [10, 0, 0, 2], [10, 0, 0, 1]]?;
+                    assert!(rt; is_let(&rt, rt.alloc(), routers, source, (to, from), operation)?);
+                }
             }
         }
     }
     Ok(())
 }
 
+/// An answer to a query goes from the socket of RIP or SAP to that of who asked, and is a response
+/// too.
 #[test]
 fn hears_of_no_router_what_is_its_own_and_no_response(rt: HostRuntime) -> Result<(), AllocError> {
-    for socket in [Socket::RIP, Socket::SAP, Socket(0x4002)] {
-        for operation in 1..5 {
-            let routers = vec![in rt.alloc(); [10, 0, 0, 2]]?;
-            let response = (socket == Socket::RIP && operation == 2)
-                || (socket == Socket::SAP && (operation == 2 || operation == 4));
-            let heard = is_let(&rt, rt.alloc(), routers, SOURCES[1], socket, operation)?;
-            assert_eq!(rt; heard, !response);
-            let none = Vec::new(rt.alloc());
-            assert!(rt; !is_let(&rt, rt.alloc(), none, SOURCES[0], socket, operation)?);
+    for to in SOCKETS {
+        for from in SOCKETS {
+            for operation in 1..5 {
+                let sockets = (to, from);
+                let routers = vec![in rt.alloc(); [10, 0, 0, 2]]?;
+                let heard = is_let(&rt, rt.alloc(), routers, SOURCES[1], sockets, operation)?;
+                assert_eq!(rt; heard, !is_response(sockets, operation));
+                let none = Vec::new(rt.alloc());
+                assert!(rt; !is_let(&rt, rt.alloc(), none, SOURCES[0], sockets, operation)?);
+            }
         }
     }
     Ok(())

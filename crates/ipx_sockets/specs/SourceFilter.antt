@@ -1,9 +1,9 @@
 -- Which senders are accepted at the ports of a device, and what a device with access lists delivers and
 -- sends. Defined by this project.
-use Rattle.std.specs.Prelude.{Vec, ◌≡◌, ℕ, ◌+◌, List, Bool, true, false, not, ◌==◌, ◌&&◌, ◌||◌, Option, Some, None, if◌then◌else◌, length, nat_le, take}
+use Rattle.std.specs.Prelude.{Vec, ◌≡◌, ℕ, ◌+◌, List, Bool, true, false, not, ◌==◌, ◌&&◌, ◌||◌, Option, Some, None, if◌then◌else◌, take}
 use Rattle.std.specs.Global.{Global}
 use Rattle.ipx_wire.specs.Assigned.{rip_socket, sap_socket}
-use Rattle.ipx_wire.specs.Ipx.{BeginsWith, PacketView, number}
+use Rattle.ipx_wire.specs.Ipx.{BeginsWith, PacketView}
 use Rattle.ipx_wire.specs.declared.address.Network.{Network}
 use Rattle.ipx_wire.specs.declared.address.Node.{Node}
 use Rattle.ipx_wire.specs.declared.ipx.packet.IpxHeader.{IpxHeader}
@@ -11,6 +11,7 @@ use Rattle.ipx_router.specs.Classify.{is_node}
 use Rattle.ipx_router.specs.RouterPackets.{broadcast}
 use Rattle.ipx_carrier.specs.Counting.{raised}
 use Rattle.ipx_carrier.specs.Mapping.{node_at}
+use Rattle.ipxnet_server.specs.ServerHears.{tells_router}
 use Rattle.ipx_sockets.specs.declared.source_check.NetworkMismatch.{NetworkMismatch}
 use Rattle.ipx_sockets.specs.declared.source_filter.AccessList.{AccessList}
 use Rattle.ipx_sockets.specs.declared.source_filter.DropCount.{DropCount}
@@ -60,16 +61,11 @@ abbrev pub SourceMatchesSender : Network → Option (List ℕ) → List ℕ → 
 SourceMatchesSender network from bytes =
     (p : PacketView) → BeginsWith bytes p → source_matches_sender network from p.header ≡ true
 
--- a packet is a response that advertises routes (RIP) or services (SAP)
-abbrev pub is_response : PacketView → Bool
-is_response p = nat_le 2 (length p.body)
-    && ((p.header.to.socket.0 == rip_socket && number 2 0 p.body == 2)
-    || (p.header.to.socket.0 == sap_socket && (number 2 0 p.body == 2 || number 2 0 p.body == 4)))
-
--- a sender that is no router forwards nothing, and advertises nothing
+-- a sender that is no router forwards nothing, advertises nothing, and answers no query of RIP or SAP: a response is
+-- one by either of its sockets
 abbrev pub may_originate : Network → Option (Vec (List ℕ) Global) → Option (List ℕ) → PacketView → Bool
 may_originate network routers from p =
-    is_listed routers from || (is_unrouted network p.header && not (is_response p))
+    is_listed routers from || (is_unrouted network p.header && not (tells_router p))
 
 -- the same for bytes; those that are no packet do neither
 abbrev pub MaySay : Network → Option (Vec (List ℕ) Global) → Option (List ℕ) → List ℕ → Type 0
@@ -99,6 +95,11 @@ IsVerdictOn (Some g) from bytes (NotARouter mismatch) = (is_listed g.hears from 
     × IsMismatch g.network from bytes mismatch
 IsVerdictOn (Some g) from bytes Heard = (is_listed g.hears from ≡ true)
     × SourceMatchesSender g.network from bytes × MaySay g.network g.routers from bytes
+
+-- a datagram of this sender may come to a port. Without an access list every sender is unknown
+abbrev pub may_come : Option AccessList → Option (List ℕ) → Bool
+may_come None from = false
+may_come (Some g) from = is_listed g.hears from
 
 -- a datagram may be sent there by a port
 abbrev pub may_go : Option AccessList → List ℕ → Bool

@@ -7,6 +7,7 @@ ghost use Rattle.ipx_carrier.specs.Readiness.{AsksPortWithMark};
 ghost use Rattle.ipx_carrier.specs.ReadySet.{is_port_marked};
 ghost use Rattle.ipx_carrier.specs.Traces.{v4_at};
 ghost use Rattle.ipx_sockets.specs.Senders.{udp_events, udp_fds};
+ghost use Rattle.ipx_sockets.specs.SocketCalls.{HasCountedNothing};
 ghost use Rattle.ipx_config.specs.PortLists.{datagram_places, datagram_ports};
 ghost use Rattle.ipx_config.specs.SitePorts.{udp_ports};
 
@@ -91,7 +92,7 @@ fn bound_port<R: Net>(
 fn device_of(alloc: Global, sockets: Vec<PortSocket>) -> Result<UdpSockets, AllocError>
     ensures ports { IfOk result (λ d. d.sockets.items ≡ sockets.items) }
     ensures marks { IfOk result (λ d. d.marks ≡ replicate (length sockets.items) true) }
-    ensures fresh { IfOk result (λ d. (d.sent ≡ 0) × (d.faults ≡ 0) × (d.sender ≡ None)) }
+    ensures uncounted { IfOk result (λ d. HasCountedNothing d) }
 {
     let marks = ReadySet::all(alloc, sockets.len())?;
     Ok(UdpSockets {
@@ -108,6 +109,7 @@ fn device_of(alloc: Global, sockets: Vec<PortSocket>) -> Result<UdpSockets, Allo
 fn bound_device(alloc: Global, sockets: Vec<PortSocket>) -> Result<UdpSockets, BindFault>
     ensures ports { IfOk result (λ d. d.sockets.items ≡ sockets.items) }
     ensures marks { IfOk result (λ d. d.marks ≡ replicate (length sockets.items) true) }
+    ensures uncounted { IfOk result (λ d. HasCountedNothing d) }
 {
     match device_of(alloc, sockets) {
         Ok(device) => Ok(device),
@@ -131,6 +133,7 @@ impl UdpSockets {
         ensures fresh { IfOk result (λ d. udp_events d.sockets.items
             ≡ map (λ p. []) (datagram_ports ports.now)) }
         ensures marks { IfOk result (λ d. d.marks ≡ replicate (length d.sockets.items) true) }
+        ensures uncounted { IfOk result (λ d. HasCountedNothing d) }
     {
         let mut sockets = Vec::new(alloc);
         for (place, port) in ports.iter().enumerate() {
@@ -157,6 +160,7 @@ impl UdpSockets {
         // Its socket was asked nothing yet.
         ensures fresh { IfOk result (λ d. udp_events d.sockets.items ≡ [] ∷ []) }
         ensures marks { IfOk result (λ d. d.marks ≡ true ∷ []) }
+        ensures uncounted { IfOk result (λ d. HasCountedNothing d) }
     {
         let socket = bound_port(rt, 1, address, udp_port)?;
         match vec![in alloc; socket] {
@@ -229,11 +233,7 @@ impl UdpSockets {
     }
 
     fn count_fault(&mut self)
-        ensures counted { self.new.faults ≡ raised self.old.faults }
-        ensures sockets { self.new.sockets ≡ self.old.sockets }
-        ensures marks { self.new.marks ≡ self.old.marks }
-        ensures sender { self.new.sender ≡ self.old.sender }
-        ensures sent { self.new.sent ≡ self.old.sent }
+        ensures { self.new ≡ record self.old { faults = raised self.old.faults } }
     {
         saturating_increment(&mut self.faults);
     }
@@ -280,7 +280,8 @@ impl Datagrams for UdpSockets {
     fn send(&mut self, port: usize, to: [u8; 4], bytes: &[u8]) -> Result<(), DeviceFault>
         requires there { port < length self.old.sockets.items }
         // The port's socket was asked to send it to that IP address, at the UDP port of the port's
-        // peers. The system took it or refused it, and that is counted.
+        // peers. The system took it or refused it, and that is counted. Where the last one was to
+        // go that it refused is known.
         ensures sends { SendsDatagram self.old
             (record { port = port; to = to; bytes = bytes.now }) self.new }
         ensures ports { length self.new.sockets.items ≡ length self.old.sockets.items }

@@ -3,7 +3,8 @@
 
 ghost use Rattle.std.specs.Prelude.{◌≡◌};
 ghost use Rattle.ipx_wire.specs.Ipx.{packet_view};
-ghost use Rattle.ipx_sockets.specs.SourceFilter.{is_forwarded_within, is_local_to, is_node_of, is_response, is_unrouted, network_mismatch, source_matches_sender};
+ghost use Rattle.ipxnet_server.specs.ServerHears.{has_socket, tells_router};
+ghost use Rattle.ipx_sockets.specs.SourceFilter.{is_forwarded_within, is_local_to, is_node_of, is_unrouted, network_mismatch, source_matches_sender};
 
 use byteorder::{BigEndian, ByteOrder};
 use ipx_carrier::node_of;
@@ -95,15 +96,23 @@ pub fn source_matches_sender(network: Network, from: Option<[u8; 4]>, header: &I
         && (!is_unrouted(network, header) || is_node_of(node, from))
 }
 
-/// Whether a packet is a response that advertises routes or services.
+/// Whether one of a packet's sockets is this one.
+fn has_socket(socket: Socket, header: &IpxHeader) -> bool
+    ensures { result ≡ has_socket socket.0 header.now }
+{
+    header.to.socket == socket || header.from.socket == socket
+}
+
+/// Whether a packet is a response of RIP or SAP. One that answers a query comes from their socket,
+/// and goes to the socket of who asked.
 pub fn is_response(packet: &Packet<'_>) -> bool
-    ensures { result ≡ is_response (packet_view packet.now) }
+    ensures { result ≡ tells_router (packet_view packet.now) }
 {
     if packet.body.len() < 2 {
         return false;
     }
     let operation = BigEndian::read_u16(packet.body);
-    let socket = packet.header.to.socket;
-    (socket == Socket::RIP && operation == RESPONSE)
-        || (socket == Socket::SAP && (operation == RESPONSE || operation == NARROW_RESPONSE))
+    (has_socket(Socket::RIP, &packet.header) && operation == RESPONSE)
+        || (has_socket(Socket::SAP, &packet.header)
+            && (operation == RESPONSE || operation == NARROW_RESPONSE))
 }

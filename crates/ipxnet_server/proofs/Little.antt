@@ -206,7 +206,7 @@ again_routers : (b : Bool) (from : SocketAddrV4) (now : ℕ) (l : ServerView) �
 again_routers true from now l = refl
 again_routers false from now l = refl
 
-after_routers : (l : ServerView) (call : ServerCall) → (server_after l call).routers ≡ l.routers
+pub after_routers : (l : ServerView) (call : ServerCall) → (server_after l call).routers ≡ l.routers
 after_routers l (Datagram from p size now) =
     let aged : ServerView = server_aged now l in
     let met : ServerView = server_met from p.header size now aged in

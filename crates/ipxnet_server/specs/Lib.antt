@@ -13,5 +13,6 @@ pub mod FloodRuns
 pub mod CopyRuns
 pub mod Unshown
 pub mod JoinedLearns
+pub mod JoinedRuns
 pub mod ServerCounted
 pub mod ServerInside

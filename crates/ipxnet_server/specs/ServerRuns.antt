@@ -8,7 +8,6 @@ use Rattle.ipx_wire.specs.declared.address.Node.{Node}
 use Rattle.ipx_wire.specs.declared.ipx.fault.IpxFault.{IpxFault}
 use Rattle.ipx_wire.specs.declared.ipx.packet.IpxHeader.{IpxHeader}
 use Rattle.ipxnet_server.specs.declared.drops.ServerDrop.TheVariants.{Malformed}
-use Rattle.ipxnet_server.specs.declared.peer_servers.RemoteClient.{RemoteClient}
 use Rattle.ipxnet_server.specs.declared.port.ServerPort.{ServerPort}
 use Rattle.ipxnet_server.specs.NotedPlaces.{is_noted, is_noted_at}
 use Rattle.ipxnet_server.specs.AskTimes.{first_ask}
@@ -56,12 +55,6 @@ abbrev pub ClientsShowedTheirNodes : Type 0
 ClientsShowedTheirNodes = (port : ServerPort) (most : ℕ) (routers : List SocketAddrV4) (calls : List ServerCall) (place : SocketAddrV4)
     → is_some (client_at place (server_run (joined_server port most routers) calls).clients) ≡ true
     → list_any (shows_node port place) calls ≡ true
-
--- whatever a server knows of the clients of joined routers, the same are its own clients after a call: so whatever
--- came from these, it keeps nobody out
-abbrev pub JoinedRoutersKeepNobodyOut : Type 0
-JoinedRoutersKeepNobodyOut = (l : ServerView) (far : List RemoteClient) (call : ServerCall)
-    → (server_after (record l { far = far }) call).clients ≡ (server_after l call).clients
 
 -- ---- who is asked
 

@@ -5,10 +5,11 @@
 ghost use Rattle.ipxnet_server.specs.CopyRuns.{CopiesAreLimited};
 ghost use Rattle.ipxnet_server.specs.FloodRuns.{ClientsFloodSeldom};
 ghost use Rattle.ipxnet_server.specs.JoinedLearns.{NoGivenPacketShowsAClient};
+ghost use Rattle.ipxnet_server.specs.JoinedRuns.{JoinedRoutersKeepNobodyOut};
 ghost use Rattle.ipxnet_server.specs.NotedPlaces.{RegistrationsKeepOtherNotes};
 ghost use Rattle.ipxnet_server.specs.Pings.{AsksAreLate, AsksAreTwo, OnlySilentArePinged, PingsAreSeldom};
 ghost use Rattle.ipxnet_server.specs.Restarts.{RestartAsksAreApart};
-ghost use Rattle.ipxnet_server.specs.ServerRuns.{ClientsShowedTheirNodes, JoinedRoutersKeepNobodyOut, WhoStaysNotedIsAsked};
+ghost use Rattle.ipxnet_server.specs.ServerRuns.{ClientsShowedTheirNodes, WhoStaysNotedIsAsked};
 ghost use Rattle.ipxnet_server.specs.Unshown.{WhoShowsNothingGetsLittle};
 
 /// A joined server takes no packet of the core of another router for one of that router's clients.
@@ -63,8 +64,9 @@ pub fn clients_showed_their_nodes()
     ensures { ClientsShowedTheirNodes }
 {}
 
-/// Nobody is kept out by what came from joined routers: whatever a server knows of their clients, its
-/// own clients are the same after a call.
+/// Nobody is kept out by what comes from joined routers, in any course of calls. Whatever they send at
+/// the same times, and whatever a server knows of their clients, after each call the same are its
+/// own clients, and the same are noted. Each registration has the same answer.
 pub fn joined_routers_keep_nobody_out()
     ensures { JoinedRoutersKeepNobodyOut }
 {}

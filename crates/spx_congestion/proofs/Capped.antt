@@ -1,12 +1,12 @@
 -- Within any second a pacer lets go as many units as the credit that it may save is enough for, twice, and the credit
 -- that it may gain. The state after each call keeps this.
-use Rattle.std.proofs.Common.{◌≡◌, ◌+◌, ◌-◌, ◌*◌, ◌/◌, ◌∙◌, ◌≤◌, ◌<◌, ◌⊎◌, ℕ, zero, suc, Bool, true, false, List, [], ◌∷◌, ◌++◌, None, ap, arith, max, min, refl, sym, subst, inl, inr, ⊎_elim}
+use Rattle.std.proofs.Common.{◌≡◌, ◌+◌, ◌-◌, ◌*◌, ◌/◌, ◌≤◌, ◌<◌, ◌⊎◌, ℕ, zero, suc, Bool, true, false, List, [], ◌∷◌, ◌++◌, None, arith, max, min, refl, sym, subst, inl, inr, ⊎_elim}
 use Rattle.std.proofs.Math.Nat.{mul-le-mul_right}
 use Rattle.std.proofs.lemmas.Bool.{leb-true, ltb-true, ltb-false}
 use Rattle.std.specs.Prelude.{◌&&◌, if◌then◌else◌, IsTrue, is_some, nat_le, nat_lt}
 use Rattle.spx_link.specs.Limits.{most_units}
 use Rattle.spx_congestion.specs.Capping.{HasLetGo, LetsGo, UnitsAreCapped, count_within, is_within, unit_at, made, plans, hears, gives}
-use Rattle.spx_congestion.specs.Pacing.{GrowsCredit, PacerView, Tends, given_by, grown_credit, has_credit, made_pacer, most_rate, plan_of, rate_of, with_outstanding}
+use Rattle.spx_congestion.specs.Pacing.{GrowsCredit, PacerView, given_by, has_credit, plan_of, rate_of, with_outstanding}
 use Rattle.spx_congestion.specs.declared.sent_kind.SentKind.{SentKind}
 use Rattle.spx_congestion.specs.declared.sent_kind.SentKind.TheVariants as Gaves
 

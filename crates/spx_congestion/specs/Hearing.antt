@@ -1,15 +1,21 @@
 -- What one packet that its link read changes about a pacer (defined by this project).
-use Rattle.std.specs.Prelude.{ℕ, ◌+◌, ◌-◌, ◌≡◌, ◌<◌, ◌≤◌, ◌⊎◌, Bool, IsTrue, None, Some, false, min, true}
+use Rattle.std.specs.Prelude.{ℕ, ◌+◌, ◌-◌, ◌^◌, ◌≡◌, ◌<◌, ◌≤◌, ◌⊎◌, ◌||◌, if◌then◌else◌, Bool, IsTrue, Option, None, Some, false, is_some, min, nat_lt, true}
 use Rattle.spx_link.specs.declared.numbers.Numbers.{Numbers}
 use Rattle.spx_congestion.specs.Asking.{Asked, AsksUpTo, RunsOn}
-use Rattle.spx_congestion.specs.Measured.{Answers, IsBounded, Samples, TripView}
+use Rattle.spx_congestion.specs.Measured.{IsBounded, TripView, heard_trip, sampled_since}
 use Rattle.spx_congestion.specs.Pacing.{MendsOn, PacerView, WaitsOn, saturating_sum, flight, is_double, waited_since, with_outstanding}
+use Rattle.spx_congestion.specs.SendTimes.{time_at}
 
 -- so many units were acknowledged, and so many are outstanding after that. The first of them was missing, and
--- the others were received. The timeout begins anew
+-- the others were received. The timeout begins anew, and no duplicate came since
 abbrev pub moved_on : PacerView → ℕ → ℕ → ℕ → PacerView
 moved_on p units out now =
-    with_outstanding (record p { base = saturating_sum p.base units; left = p.left - (units - 1); timer = None }) out now
+    with_outstanding (record p {
+      base = saturating_sum p.base units;
+      left = p.left - (units - 1);
+      timer = None;
+      duplicates = 0;
+    }) out now
 
 -- a repair begins: the first outstanding unit is to be sent again, and none that was sent again is in flight
 pub record BeginsRepair (old : PacerView) (now : ℕ) (new : PacerView) : Type 0 where
@@ -95,13 +101,20 @@ Acknowledges old units out now new =
     (RepairsNothing old × OnlyMeasures (moved_on old units out now) new)
     ⊎ ((end : ℕ) × (old.recover ≡ Some end) × Repairs end (moved_on old units out now) now new)
 
--- what an acknowledgement leaves of what was measured: at most one sample more, and none while something is repaired.
--- The timeout is no longer doubled
-pub record Measures (old : PacerView) (trip : TripView) (now : ℕ) (new : PacerView) : Type 0 where
-  pub sample : TripView
-  pub samples : Samples trip now sample
-  pub once : (sample ≡ trip) ⊎ RepairsNothing old
-  pub is : new.trip ≡ record sample { doubled = 0 }
+-- the position of the last of so many outstanding units
+abbrev pub last_of : PacerView → ℕ → ℕ
+last_of p units = saturating_sum p.base (units - 1)
+
+-- when the last of the units that are acknowledged was sent, if it was sent once (Karn's rule). It gives no sample after
+-- a duplicate, or while something is repaired
+abbrev pub sample_from : PacerView → ℕ → Option ℕ
+sample_from p units =
+    if nat_lt 0 p.duplicates || is_some p.recover then None else time_at p.sent (last_of p units)
+
+-- what an acknowledgement of so many units leaves of what was measured: with the sample that it gives. The timeout is no
+-- longer doubled
+abbrev pub measured : PacerView → ℕ → TripView → ℕ → TripView
+measured p units trip now = record (sampled_since (sample_from p units) trip now) { doubled = 0 }
 
 -- at most one unit more was received, or at most one that was sent again is no longer in flight
 abbrev pub TakesOne : PacerView → PacerView → Type 0
@@ -109,23 +122,29 @@ TakesOne old new = ((new.left ≡ old.left) × (new.in_flight ≡ old.in_flight)
     ⊎ ((new.left ≡ old.left + 1) × (new.in_flight ≡ old.in_flight))
     ⊎ ((new.left ≡ old.left) × (new.in_flight + 1 ≡ old.in_flight))
 
+-- a duplicate is counted
+abbrev pub counts_one : ℕ → ℕ
+counts_one duplicates = min (duplicates + 1) (2 ^ 16 - 1)
+
 -- a duplicate takes at most one unit out of flight, and changes nothing else but the window, what is measured,
--- and since when the pacer waits
+-- and since when the pacer waits. It is counted, or changes only what is measured
 pub record TakesOneOut (old new : PacerView) : Type 0 where
   pub one : TakesOne old new
+  pub counts : (new ≡ record old { trip = new.trip }) ⊎ (new.duplicates ≡ counts_one old.duplicates)
   pub is : new ≡ record old {
     left = new.left;
     in_flight = new.in_flight;
     window = new.window;
     trip = new.trip;
     timer = new.timer;
+    duplicates = new.duplicates;
   }
 
--- or a repair begins with it, if nothing is repaired
+-- or it is counted and a repair begins with it, if nothing is repaired
 pub record TakesOneAndRepairs (old : PacerView) (now : ℕ) (new : PacerView) : Type 0 where
   pub none : RepairsNothing old
   pub one : (new.left ≡ old.left) ⊎ (new.left ≡ old.left + 1)
-  pub begins : BeginsRepair (record old { left = new.left }) now new
+  pub begins : BeginsRepair (record old { left = new.left; duplicates = counts_one old.duplicates }) now new
 
 abbrev pub Repeats : PacerView → ℕ → PacerView → Type 0
 Repeats old now new = TakesOneOut old new ⊎ TakesOneAndRepairs old now new
@@ -145,9 +164,9 @@ pub record Hears (old : PacerView) (before after : Numbers) (joined : Bool) (now
   pub still : before.out ≤ after.out → flight (with_outstanding old after.out now) ≤ flight new
       → new.timer ≡ waited_since old.timer after.out now
   pub timed : IsBounded new.trip
-  pub trip : joined ≡ false → before.out ≤ after.out → new.trip ≡ old.trip
-  pub answers : before.out ≤ after.out → Answers joined old.trip new.trip
-  pub measures : after.out < before.out → (trip : TripView) × Answers joined old.trip trip × Measures old trip now new
+  pub answers : before.out ≤ after.out → new.trip ≡ heard_trip joined old.trip now
+  pub measures : after.out < before.out
+      → new.trip ≡ measured old (before.out - after.out) (heard_trip joined old.trip now) now
   pub counted : before.out ≤ after.out → is_double before after ≡ false
       → new ≡ record (with_outstanding old after.out now) { trip = new.trip }
   pub mends : MendsOn old now new

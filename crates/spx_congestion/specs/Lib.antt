@@ -4,7 +4,9 @@ pub mod Hearing
 pub mod Measured
 pub mod Pacing
 pub mod Remembered
+pub mod Sampling
 pub mod Saving
+pub mod SendTimes
 pub mod Capping
 pub mod Timeouts
 pub mod Waiting

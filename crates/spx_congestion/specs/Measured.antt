@@ -1,5 +1,5 @@
 -- A measured round trip, and the timeout of an acknowledgement (RFC 6298; its bounds are this project's).
-use Rattle.std.specs.Prelude.{ℕ, ◌+◌, ◌-◌, ◌*◌, ◌/◌, ◌^◌, ◌≡◌, ◌≤◌, ◌&&◌, ◌⊎◌, if◌then◌else◌, Bool, IsTrue, false, min, max, nat_le, nat_lt, Option, None, Some, is_some, List, replicate, slice_set}
+use Rattle.std.specs.Prelude.{ℕ, ◌+◌, ◌-◌, ◌*◌, ◌/◌, ◌^◌, ◌≤◌, ◌&&◌, if◌then◌else◌, Bool, true, false, min, max, nat_le, nat_lt, Option, None, Some, List, replicate, slice_set}
 use Rattle.std.specs.Int.{abs_diff}
 use Rattle.std.specs.List.{list_all}
 use Rattle.spx_congestion.specs.declared.least_trip.LeastTrip.{LeastTrip}
@@ -9,7 +9,8 @@ use Rattle.spx_congestion.specs.Remembered.{least_of, loses_least, noted, rememb
 -- in milliseconds: the timeout of an acknowledgement, how often in a row it passed, and the smoothed round
 -- trip. `first` is the round trip of the request. `smooth` is eight times the smoothed round trip of the samples,
 -- if there are any, and `variation` is four times how far they vary. `recent` are the last eight samples, of which
--- the next one replaces that at `turn`
+-- the next one replaces that at `turn`. `asked` is whether the request was sent. `asked_at` is when, if it was sent
+-- once and is not answered yet
 pub record TripView : Type 0 where
   pub wait : ℕ
   pub doubled : ℕ
@@ -20,6 +21,8 @@ pub record TripView : Type 0 where
   pub least : LeastTrip
   pub recent : List ℕ
   pub turn : ℕ
+  pub asked : Bool
+  pub asked_at : Option ℕ
 
 -- the smoothed round trip, at least 1, from eight times it, if there is one. Otherwise the round trip of the
 -- request, or else the timeout
@@ -52,6 +55,8 @@ trip_of t =
       least = t.least;
       recent = t.recent;
       turn = t.turn;
+      asked = t.asked;
+      asked_at = t.asked_at;
     }
 
 -- before anything is measured
@@ -67,11 +72,17 @@ made_trip =
       least = record { period = 0; present = None; before = None };
       recent = replicate 8 0;
       turn = 0;
+      asked = false;
+      asked_at = None;
     }
 
 -- the timeout of so many milliseconds, or the nearest within the bounds
 abbrev pub wait_within : ℕ → ℕ
 wait_within millis = min (max millis least_wait) most_wait
+
+-- the request is sent now. If it was sent before, its reply is not measured
+abbrev pub asked_now : TripView → ℕ → TripView
+asked_now t now = record t { asked = true; asked_at = if t.asked then None else Some now }
 
 -- a request was answered at its first sending: the timeout is three times that round trip
 abbrev pub answered_wait : ℕ → ℕ
@@ -84,6 +95,20 @@ answered t trip =
       smoothed = smoothed_of t.smooth (Some trip) (answered_wait trip);
       first = Some trip;
     }
+
+-- a request that was sent then is answered now. If its time is not known, nothing is measured
+abbrev pub answered_since : Option ℕ → TripView → ℕ → TripView
+answered_since None t now = t
+answered_since (Some at) t now = answered t (now - at)
+
+-- the reply to the request is here now. Its round trip is the time since the request was sent, if it was sent once. No
+-- other reply is measured
+abbrev pub replied : TripView → ℕ → TripView
+replied t now = record (answered_since t.asked_at t now) { asked_at = None }
+
+-- a packet is here now, and what it acknowledges is not measured yet. Only the reply to the request is
+abbrev pub heard_trip : Bool → TripView → ℕ → TripView
+heard_trip joined t now = if joined then replied t now else t
 
 -- eight times the smoothed round trip after a sample (RFC 6298): that of the first sample, and then seven eighths of
 -- what it was and an eighth of the sample
@@ -148,13 +173,11 @@ forgotten t now None = None
 forgotten t now (Some least) =
     if loses_least t.least now && are_over t.recent 8 16 least then Some (least, t.smoothed) else None
 
--- the reply to a request may be measured, and nothing else is without an acknowledgement
-abbrev pub Answers : Bool → TripView → TripView → Type 0
-Answers joined old new = (new ≡ old) ⊎ (IsTrue joined × ((trip : ℕ) × (new ≡ answered old trip)))
-
--- nothing is measured, or one sample
-abbrev pub Samples : TripView → ℕ → TripView → Type 0
-Samples old now new = (new ≡ old) ⊎ ((trip : ℕ) × (1 ≤ trip) × (new ≡ sampled old trip now))
+-- a unit that was sent then is acknowledged now. The time between is the sample, at least a millisecond. If no time is
+-- given, nothing is measured
+abbrev pub sampled_since : Option ℕ → TripView → ℕ → TripView
+sampled_since None t now = t
+sampled_since (Some at) t now = sampled t (max (now - at) 1) now
 
 -- the timeout, which doubles each time that it passes, up to four seconds
 abbrev pub doubled_wait : TripView → ℕ

@@ -1,13 +1,14 @@
 -- The state of a pacer, as its contracts see it, and what it lets a link do (defined by this project).
 use Rattle.std.specs.Prelude.{ℕ, ◌+◌, ◌-◌, ◌*◌, ◌/◌, ◌^◌, ◌&&◌, ◌||◌, ◌==◌, if◌then◌else◌, Bool, true, false, min, max, nat_lt, nat_le}
-use Rattle.std.specs.Prelude.{◌≡◌, ◌<◌, ◌≤◌, ◌⊎◌, IsTrue, Option, None, Some, is_some, option_map, unwrap_or}
+use Rattle.std.specs.Prelude.{◌≡◌, ◌<◌, ◌≤◌, ◌⊎◌, IsTrue, List, Option, None, Some, is_some, option_map, unwrap_or}
 use Rattle.spx_link.specs.Limits.{most_units}
 use Rattle.spx_link.specs.declared.numbers.Numbers.{Numbers}
 use Rattle.spx_congestion.specs.declared.plan.Plan.{Plan}
 use Rattle.spx_congestion.specs.declared.sent_kind.SentKind.{SentKind}
 use Rattle.spx_congestion.specs.declared.sent_kind.SentKind.TheVariants as Gaves
 use Rattle.spx_congestion.specs.Asking.{is_idle}
-use Rattle.spx_congestion.specs.Measured.{IsBounded, TripView, doubled_wait, end_wait, made_trip, slack}
+use Rattle.spx_congestion.specs.Measured.{IsBounded, TripView, asked_now, doubled_wait, end_wait, made_trip, slack}
+use Rattle.spx_congestion.specs.SendTimes.{no_times, with_time}
 
 -- positions count units from 0. `out` units from `base` on are outstanding. `left` of them were received or
 -- are given up, and `in_flight` were sent again. Those from `from` up to `to` are to be sent again. The
@@ -16,7 +17,8 @@ use Rattle.spx_congestion.specs.Measured.{IsBounded, TripView, doubled_wait, end
 -- While missing units are repaired, `recover` is the position at which that ends, `run` is how many of the
 -- outstanding units may be sent again, and those up to `fixed` already were, or are to be. While `mends` holds
 -- too, those that duplicates report as missing are repaired. The first outstanding unit was sent again at
--- `fixed_at`, and was missing again `tries` times
+-- `fixed_at`, and was missing again `tries` times. `duplicates` came since anything was acknowledged. `sent` has when
+-- each outstanding unit was sent, if it was sent once
 pub record PacerView : Type 0 where
   pub base : ℕ
   pub out : ℕ
@@ -36,6 +38,8 @@ pub record PacerView : Type 0 where
   pub mends : Bool
   pub fixed_at : ℕ
   pub tries : ℕ
+  pub duplicates : ℕ
+  pub sent : List (Option ℕ)
 
 -- the sum of two numbers, or the largest one of 64 bits
 abbrev pub saturating_sum : ℕ → ℕ → ℕ
@@ -63,6 +67,8 @@ made_pacer =
       mends = false;
       fixed_at = 0;
       tries = 0;
+      duplicates = 0;
+      sent = no_times;
     }
 
 -- if units are outstanding, the pacer waits for an acknowledgement: since the time it had, or else from now
@@ -246,18 +252,24 @@ credit_after credit Gaves.End = credit - 256
 credit_after credit Gaves.Again = credit - 256
 credit_after credit Gaves.Other = credit
 
--- a packet was given: a unit costs credit, the end comes last, and the first of the units to be sent again
--- was sent
+-- the position of the last outstanding unit
+abbrev pub newest : PacerView → ℕ
+newest p = saturating_sum p.base p.out - 1
+
+-- a packet was given now. A unit costs credit, and the end comes last. When a new unit was sent is noted, and it is the
+-- last one outstanding. Of the units to be sent again the first was sent, and it has no time any more
 abbrev pub given_by : PacerView → SentKind → ℕ → PacerView
-given_by p Gaves.Request now = p
-given_by p Gaves.Unit now = record p { credit = p.credit - 256 }
-given_by p Gaves.End now = record p { credit = p.credit - 256; ended = true }
+given_by p Gaves.Request now = record p { trip = asked_now p.trip now }
+given_by p Gaves.Unit now = record p { credit = p.credit - 256; sent = with_time p.sent (newest p) (Some now) }
+given_by p Gaves.End now =
+    record p { credit = p.credit - 256; ended = true; sent = with_time p.sent (newest p) (Some now) }
 given_by p Gaves.Again now =
     record p {
       credit = p.credit - 256;
       in_flight = min (p.in_flight + 1) (2 ^ 16 - 1);
       from = saturating_sum (max p.from p.base) 1;
       fixed_at = if nat_le p.from p.base then now else p.fixed_at;
+      sent = with_time p.sent (max p.from p.base) None;
     }
 given_by p Gaves.Other now = p
 

@@ -1,7 +1,8 @@
 //! How a pacer counts the packets that the link gives.
 
-ghost use Rattle.std.specs.Prelude.{◌≡◌, ◌-◌};
-ghost use Rattle.spx_congestion.specs.Pacing.{credit_after, given_by, with_outstanding};
+ghost use Rattle.std.specs.Prelude.{◌≡◌, ◌-◌, Some};
+ghost use Rattle.spx_congestion.specs.Pacing.{credit_after, given_by, newest, with_outstanding};
+ghost use Rattle.spx_congestion.specs.SendTimes.{with_time};
 ghost use Rattle.spx_congestion.specs.declared.sent_kind.SentKind.TheVariants as Gaves;
 
 use crate::pacer::Pacer;
@@ -17,7 +18,7 @@ impl Pacer {
     {
         self.count(after.out, now);
         match what {
-            SentKind::Request => self.asks(now),
+            SentKind::Request => self.trip.ask(now),
             SentKind::Unit => self.sends(now),
             SentKind::End => {
                 self.ended = true;
@@ -28,17 +29,12 @@ impl Pacer {
         }
     }
 
-    /// The request was sent. If it was sent before, it is not measured.
-    fn asks(&mut self, now: u64)
-        ensures { self.new ≡ self.old }
-    {
-        self.asked_at = if self.asked { None } else { Some(now) };
-        self.asked = true;
-    }
-
     /// A unit was sent for the first time.
     fn sends(&mut self, now: u64)
-        ensures { self.new ≡ record self.old { credit = self.old.credit - 256 } }
+        ensures { self.new ≡ record self.old {
+          credit = self.old.credit - 256;
+          sent = with_time self.old.sent (newest self.old) (Some now);
+        } }
     {
         let position = self.next().saturating_sub(1);
         self.sent.put(position, Some(now));

@@ -2,9 +2,9 @@
 
 ghost use Rattle.std.specs.Prelude.{◌≡◌, ◌+◌, ◌<◌, ◌⊎◌, ◌&&◌, ◌==◌, IsTrue, None, Some};
 ghost use Rattle.std.specs.Prelude.{true};
-ghost use Rattle.spx_congestion.specs.Hearing.{Acknowledges, Hears, Measures, Repairs, Repeats};
-ghost use Rattle.spx_congestion.specs.Hearing.{RepairsNothing};
-ghost use Rattle.spx_congestion.specs.Measured.{Answers, IsBounded, Samples};
+ghost use Rattle.spx_congestion.specs.Hearing.{Acknowledges, Hears, Repairs, Repeats, measured};
+ghost use Rattle.spx_congestion.specs.Hearing.{sample_from};
+ghost use Rattle.spx_congestion.specs.Measured.{IsBounded, heard_trip, sampled_since};
 ghost use Rattle.spx_congestion.specs.Pacing.{MendsOn, saturating_sum, flight};
 ghost use Rattle.spx_congestion.specs.Pacing.{waited_since};
 
@@ -41,16 +41,13 @@ impl Pacer {
 
     /// If the packet is the reply to the request, the request was answered.
     fn answered(&mut self, joined: bool, now: u64)
-        ensures value { self.new ≡ record self.old { trip = self.new.trip } }
-        ensures trip { Answers joined self.old.trip self.new.trip }
+        ensures value { self.new
+            ≡ record self.old { trip = heard_trip joined self.old.trip now } }
+        ensures doubled { self.new.trip.doubled ≡ self.old.trip.doubled }
     {
-        if !joined {
-            return;
+        if joined {
+            self.trip.answer(now);
         }
-        if let Some(asked_at) = self.asked_at {
-            self.trip.answer_request(now.saturating_sub(asked_at));
-        }
-        self.asked_at = None;
     }
 
     /// So many units were acknowledged. `flight` units were in flight before.
@@ -64,7 +61,7 @@ impl Pacer {
         ensures ended { self.new.ended ≡ self.old.ended }
         ensures timed { IsBounded self.new.trip }
         ensures moves { Acknowledges self.old units out now self.new }
-        ensures measures { Measures self.old self.old.trip now self.new }
+        ensures measures { self.new.trip ≡ measured self.old units self.old.trip now }
     {
         self.measure(units, now);
         self.trip.come_back();
@@ -82,25 +79,34 @@ impl Pacer {
         }
     }
 
-    /// The last unit that is acknowledged gives the round trip, if it was sent only once (RFC 6298,
-    /// Karn's rule), with no duplicate before it and nothing repaired. If the least round trip is then about to be forgotten, a possible queue is
-    /// drained first, so that a longer path is not taken for a queue.
-    fn measure(&mut self, units: u16, now: u64)
-        ensures value { self.new
-            ≡ record self.old { trip = self.new.trip; window = self.new.window } }
-        ensures samples { Samples self.old.trip now self.new.trip }
-        ensures once { (self.new.trip ≡ self.old.trip) ⊎ RepairsNothing self.old }
+    /// When the last unit that is acknowledged was sent, if it gives the round trip: it was sent
+    /// only once (RFC 6298, Karn's rule), with no duplicate before it and nothing repaired.
+    fn sample_from(&self, units: u16) -> Option<u64>
+        ensures { result ≡ sample_from self.now units }
     {
         if self.dup_acks > 0 || self.repair.is_on() {
-            return;
+            return None;
         }
         let last = self.base.saturating_add(u64::from(units.saturating_sub(1)));
-        if let Some(sent) = self.sent.at(last) {
-            if let Some((least, trip)) = self.trip.forgotten(now) {
-                self.window.drain(least, trip);
-            }
-            self.trip.sample(now.saturating_sub(sent), now);
+        self.sent.at(last)
+    }
+
+    /// Measures the round trip of the last unit that is acknowledged. If the least round trip is
+    /// about to be forgotten, a possible queue is drained first, so that a longer path is not taken
+    /// for a queue.
+    fn measure(&mut self, units: u16, now: u64)
+        ensures { self.new ≡ record self.old {
+          trip = sampled_since (sample_from self.old units) self.old.trip now;
+          window = self.new.window;
+        } }
+    {
+        let Some(sent) = self.sample_from(units) else {
+            return;
+        };
+        if let Some((least, trip)) = self.trip.forgotten(now) {
+            self.window.drain(least, trip);
         }
+        self.trip.sample(now.saturating_sub(sent), now);
     }
 
     /// The window grows, if it was the limit.

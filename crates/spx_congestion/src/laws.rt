@@ -1,6 +1,7 @@
 //! Theorems about pacers, from their contracts alone.
 
 ghost use Rattle.spx_congestion.specs.Capping.{UnitsAreCapped};
+ghost use Rattle.spx_congestion.specs.Sampling.{SamplesAreSinceGiven};
 ghost use Rattle.spx_congestion.specs.Saving.{PlansGoOn};
 ghost use Rattle.spx_congestion.specs.Timeouts.{GivesUpAfterTen};
 ghost use Rattle.spx_congestion.specs.Waiting.{NothingElsePostpones, TimeoutsLast};
@@ -41,4 +42,10 @@ pub fn timeouts_last()
 /// and however often it plans. So of the numbers of 16 bits less than half are sent in a second.
 pub fn units_are_capped()
     ensures { UnitsAreCapped }
+{}
+
+/// If at most 8,192 units are outstanding, a sample is the time since the last unit that was
+/// acknowledged was given, and that was given only once.
+pub fn samples_are_since_given()
+    ensures { SamplesAreSinceGiven }
 {}

@@ -31,7 +31,6 @@ impl Pacer {
         self.repair = LossRecovery::new();
         self.past = self.next();
         self.in_flight = 0;
-        self.dup_acks = 0;
         if blind {
             let since = now.saturating_sub(self.trip.with_slack());
             self.ignore = self.repairs.count_since(since);

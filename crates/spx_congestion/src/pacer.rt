@@ -44,9 +44,6 @@ pub struct Pacer {
     pub(crate) timer: Option<u64>,
     /// When a unit was last sent.
     pub(crate) spoke: Option<u64>,
-    /// When the request was sent, if it was sent only once.
-    pub(crate) asked_at: Option<u64>,
-    pub(crate) asked: bool,
     /// Whether the end of the connection was sent.
     pub(crate) ended: bool,
     /// When each unit was sent, if it was sent only once.
@@ -78,6 +75,8 @@ impl Model for Pacer {
       mends = is_some p.repair.recover && not p.repair.timed;
       fixed_at = p.repair.fixed_at;
       tries = p.repair.tries;
+      duplicates = p.dup_acks;
+      sent = p.sent;
     } };
 }
 
@@ -104,8 +103,6 @@ impl Pacer {
             safe: 0,
             timer: None,
             spoke: None,
-            asked_at: None,
-            asked: false,
             ended: false,
             sent,
             repairs,

@@ -1,8 +1,9 @@
 //! The measured round trip, and the timeout of an acknowledgement (RFC 6298).
 
 ghost use Rattle.std.specs.Prelude.{◌≡◌, ◌==◌, ◌+◌, ◌-◌, ◌^◌, max, min, slice_set};
-ghost use Rattle.spx_congestion.specs.Measured.{answered, are_over, doubled_wait, made_trip};
-ghost use Rattle.spx_congestion.specs.Measured.{recent_before, sampled, slack, trip_of};
+ghost use Rattle.spx_congestion.specs.Measured.{answered, are_over, asked_now, doubled_wait};
+ghost use Rattle.spx_congestion.specs.Measured.{made_trip, recent_before, replied, sampled};
+ghost use Rattle.spx_congestion.specs.Measured.{slack, trip_of};
 ghost use Rattle.spx_congestion.specs.Measured.{turn_after, variation_on};
 ghost use Rattle.spx_congestion.specs.Remembered.{least_of};
 
@@ -39,6 +40,9 @@ pub struct RoundTrip {
     recent: [u64; RECENT],
     /// Which of the recent samples is replaced next.
     turn: usize,
+    /// Whether the request was sent, and when, if it was sent only once and is not answered yet.
+    asked: bool,
+    asked_at: Option<u64>,
 }
 
 impl RoundTrip {
@@ -55,7 +59,28 @@ impl RoundTrip {
             least: LeastTrip::new(),
             recent: [0; RECENT],
             turn: 0,
+            asked: false,
+            asked_at: None,
         }
+    }
+
+    /// The request was sent. If it was sent before, it is not measured.
+    pub fn ask(&mut self, now: u64)
+        ensures { trip_of self.new ≡ asked_now (trip_of self.old) now }
+    {
+        self.asked_at = if self.asked { None } else { Some(now) };
+        self.asked = true;
+    }
+
+    /// The reply to the request was received. It is measured if the request was sent only once.
+    pub fn answer(&mut self, now: u64)
+        ensures value { trip_of self.new ≡ replied (trip_of self.old) now }
+        ensures doubled { self.new.doubled ≡ self.old.doubled }
+    {
+        if let Some(asked_at) = self.asked_at {
+            self.answer_request(now.saturating_sub(asked_at));
+        }
+        self.asked_at = None;
     }
 
     /// A request was answered at its first sending.

@@ -1,4 +1,4 @@
-//! Rounds without loss between a paced sender and its peer, as `theory_pacing` has them: how many
+//! Rounds without loss between a paced sender and its peer, as `theory_processes` has them: how many
 //! they need, what is too soon, and courses that lose packets before, drawn from a seed.
 
 use ipx_wire::{Address, Fragment, Network, Node, Socket, SpxHeader};

@@ -33,9 +33,9 @@ def ran(run, *words, **how):
 
 
 def started(run, port):
-    """The server, once it has logged its port."""
+    """The server, once it has printed its file and logged its port. Another thread reads what it prints."""
     process = run.world.start("tonight", "ipxnet", "--port", str(port))
-    until(process.said, 10)
+    until(lambda: process.said() and len(process.out) >= len(FILE.format(port)), 10)
     return process
 
 

@@ -1,4 +1,4 @@
-"""A port whose file says which of its peers are routers, and one that accepts anybody, for `sites`."""
+"""Ports whose file says which of their peers are routers, and one that accepts anybody, for `sites`."""
 import re
 import struct
 import time
@@ -15,8 +15,9 @@ NAMING = [NEAR, FAR, NAMED, HOST, AWAY, OPEN, PEER, STRANGER]
 NAME = "n1"
 EVERY_NODE = "f" * 12
 # A query of a host with another number for this network, two routes, two services, a packet of another network and two that
-# are handed on along this one; of the third network a route, a service and a packet of another network.
-KEPT = 10
+# are handed on along this one; of the third network a route, a service and a packet of another network; and three responses of
+# a host of the second network to one elsewhere.
+KEPT = 13
 WRONG = "00000068"
 # The line of the first of these.
 TOLD = re.compile(r"\[WARN  ipx\] 1 datagram routed or RIP/SAP from a host not listed in routers \(1 since the start\), the last from "
@@ -46,6 +47,14 @@ def bodies(one):
             return found
         if packet[16:18] == b"\x40\x02":
             found.append(packet[30:])
+
+
+def come(one, count):
+    """The bodies that come to a socket within a second, or until there are so many, and just after that."""
+    came = []
+    until(lambda: came.extend(bodies(one)) or len(came) >= count, 1)
+    time.sleep(0.2)
+    return came + bodies(one)
 
 
 def to_away(source, hops, body):
@@ -97,6 +106,20 @@ def pass_on(sites, ends):
                 sorted(came) == [b"\2\0", b"\2\1", b"\3\0", b"\3\1"], str(sorted(came)))
 
 
+def answer_elsewhere(sites, ends):
+    """From the sockets of SAP and RIP a host sends no response to another network: that would offer its own service to who asked
+    there. A router sends them. Queries of a host from there go on, and so does what a host sends from another socket."""
+    responses = [("0452", 2), ("0452", 4), ("0453", 2)]
+    others = [("0452", 1), ("0452", 3), ("0453", 1), ("4003", 2), ("4003", 4)]
+    for socket, operation in [*responses, *others]:
+        body = struct.pack(">H", operation) + bytes.fromhex(socket)
+        ends[AWAY].sendto(ipx(4, ("00000061", node(HOST), "4002"), ("00000062", node(AWAY), socket), body), (FAR, sites.port))
+        ends[NAMED].sendto(ipx(4, ("00000062", node(AWAY), "4002"), ("00000061", node(NAMED), socket), body), (NEAR, sites.port))
+    for name, taker, expected in (("a host", HOST, others), ("a router", AWAY, [*responses, *others])):
+        got = sorted((body[2:].hex(), body[1]) for body in come(ends[taker], len(expected)))
+        sites.check(f"to another network {name} sends from the sockets of SAP and RIP what it may", got == sorted(expected), str(got))
+
+
 def speak_openly(sites, ends):
     """At the port that accepts anybody only its peer is a router. Somebody else tells a better route to the network of which
     the peer tells, and a service, and passes on a packet: none of these is taken. Its own packets are."""
@@ -126,6 +149,7 @@ def check_routers(sites, ends):
     """All of it, but for the figures."""
     tell(sites, ends)
     pass_on(sites, ends)
+    answer_elsewhere(sites, ends)
     speak_openly(sites, ends)
     for one in ends.values():
         one.close()

@@ -21,3 +21,16 @@ returns-clause-idle g c =
       drops = e.drops;
       written = e.written;
     }
+
+pub returns-clause-files : goal.returns-clause-files
+returns-clause-files g c =
+    let e = c.new-3.ensures in
+    let f = c.new-2.ensures in record {
+      metrics_file = e.metrics_file;
+      tables_file = e.tables_file;
+      secret_file = ap (λ f. f.path) e.clients_file ∙ f.path;
+      kept_secret = ap (λ f. f.secret) e.clients_file ∙ f.secret;
+      listed = ap (λ f. f.listed.items) e.clients_file ∙ ap (λ v. v.items) f.listed;
+      looked = ap (λ f. f.looked) e.clients_file ∙ f.looked;
+      written = ap (λ f. f.written) e.clients_file ∙ f.written;
+    }

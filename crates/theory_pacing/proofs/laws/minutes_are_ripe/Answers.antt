@@ -1,5 +1,0 @@
-use Rattle.theory_pacing.proofs.Minutes as minutes
-use Rattle.theory_pacing.proofs.laws.minutes_are_ripe.Goals as goal
-
-pub returns : goal.returns
-returns c = record { stays = minutes.stays_waiting; ripe = minutes.are_ripe c.laws_below.ensures }

@@ -1,7 +1,0 @@
-use Rattle.theory_pacing.proofs.Stuck as stuck
-use Rattle.theory_pacing.proofs.laws.no_paced_state_is_stuck.Goals as goal
-
-pub returns : goal.returns
-returns c =
-    λ s reached.
-    stuck.not_stuck c.laws_below.ensures.links c.paced_rounds_deliver.ensures s reached (c.peers_follow.ensures s reached) (c.peers_are_in_step.ensures s reached) (c.peers_are_named.ensures s reached)

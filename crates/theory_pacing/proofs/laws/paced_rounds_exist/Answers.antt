@@ -1,6 +1,0 @@
-use Rattle.theory_pacing.proofs.ManyRounds as many
-use Rattle.theory_pacing.proofs.Usable as usable
-use Rattle.theory_pacing.proofs.laws.paced_rounds_exist.Goals as goal
-
-pub returns : goal.returns
-returns c = record { stays = usable.stays; exist = λ a b p moments is. many.rounds_exist a b p moments is }

@@ -1,6 +1,0 @@
-pub mod PacedRounds
-pub mod PacedMinutes
-pub mod PacedExist
-pub mod PacedDelivers
-pub mod PacedStuck
-pub mod PacingLaws

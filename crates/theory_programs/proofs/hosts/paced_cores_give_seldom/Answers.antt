@@ -1,5 +1,0 @@
-use Rattle.theory_programs.proofs.Letting.{gives_seldom}
-use Rattle.theory_programs.proofs.hosts.paced_cores_give_seldom.Goals as goal
-
-pub returns : goal.returns
-returns c = gives_seldom c.units_are_capped.ensures

@@ -1,4 +1,0 @@
-use Rattle.theory_programs.proofs.programs.run.Goals as goal
-
-pub returns : goal.returns
-returns g c = c.rounds_are_calls.ensures.run _ _ _ c.run_router.ensures.runs
