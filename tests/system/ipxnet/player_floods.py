@@ -1,5 +1,6 @@
 """A player who sends too many broadcasts, and 1,000 addresses that forge registrations, for `players`."""
 import os
+import re
 import resource
 import select
 import time
@@ -91,8 +92,8 @@ def check_broadcasts(run):
               beside >= SHARE * alone, f"{beside:.0f} a second, {alone:.0f} without")
     key = 'ipx_ipxnet_dropped_total{port="1",reason="rate_limited"}'
     run.check("what was too much is counted", until(lambda: run.world.figures("crowd.prom").get(key, 0) > BROADCASTS, 14))
-    said = "broadcasts of players dropped: more than 128 a second of one"
-    lines = [line for line in router.process.said() if said in line]
+    said = re.compile(r"\bbroadcasts? of players dropped: more than 128 a second of one\b")
+    lines = [line for line in router.process.said() if said.search(line)]
     last = f"{flooder.place[0]}:{flooder.place[1]}"
     run.check("and logged once, with the address of that player", len(lines) == 1 and last in lines[0], str(lines))
     end(run, router, [*crowd, flooder, giver, taker])
