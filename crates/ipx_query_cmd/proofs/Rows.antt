@@ -7,7 +7,6 @@ use Rattle.std.proofs.lemmas.List.{append-nil, append_assoc, flat_map_more, map-
 use Rattle.ipx_wire.specs.declared.address.Node.{Node}
 use Rattle.ipx_carrier.specs.Device.{TellsMoments}
 use Rattle.ipx_carrier.specs.Turns.{Turn, Turns, moments_of}
-use Rattle.ipx_inspect.specs.ShowLine.{name_text}
 use Rattle.ipx_query.specs.AskQueries.{AskGives}
 use Rattle.ipx_query.specs.QueryEnds.{is_ask_over}
 use Rattle.ipx_query.specs.QueryView.{AskView, IsNewAsk}
@@ -20,9 +19,7 @@ use Rattle.ipx_sockets.specs.Steady.{NeverGoesBack}
 use Rattle.ipx_sockets.specs.declared.clock.SteadyClock.{SteadyClock}
 use Rattle.ipx_query_cmd.specs.QueryPorts.{IsOpened}
 use Rattle.ipx_query_cmd.specs.QueryRuns.{AsksOn, HasAsked, PassBetween, hears_answer}
-use Rattle.ipx_table_dump.specs.TableRead.{ServiceSpelled}
-use Rattle.ipx_query_cmd.specs.KnownLines.{known_name_width}
-use Rattle.ipx_query_cmd.specs.OperatorLines.{AdvertisedService, answering_nodes, name_width}
+use Rattle.ipx_query_cmd.specs.OperatorLines.{answering_nodes, widest}
 use Rattle.ipx_query_cmd.specs.QueryTargets.{asked_nodes, guarded_querier, new_ips, querier_address}
 use Rattle.ipx_query_cmd.proofs.Driven.{drives_after}
 
@@ -103,26 +100,21 @@ pub answers_more : (rs : List QueriedRouter) (i : ℕ) (d : QueriedRouter) (old 
 answers_more rs i d old new lt was is =
     is ∙ ap (λ t. t ++ if_answered (get_or rs i d)) was ∙ sym (answered_more (take i rs) (get_or rs i d)) ∙ ap answering_nodes (sym (take_more rs i d lt))
 
--- the column is as wide as one more name needs
-wide_more : (xs : List AdvertisedService) (x : AdvertisedService) → name_width (xs ++ x ∷ []) ≡ max (name_width xs) (length (name_text x.0.name))
-wide_more [] x = omega arith
-wide_more (y ∷ xs) x = omega (arith, wide_more xs x)
+-- a column is as wide as one more text needs
+wide_more : {X : Type 0} (f : X → List ℕ) (xs : List X) (x : X) → widest f (xs ++ x ∷ []) ≡ max (widest f xs) (length (f x))
+wide_more f [] x = omega arith
+wide_more f (y ∷ xs) x = omega (arith, wide_more f xs x)
 
-pub width_more : (xs : List AdvertisedService) (i : ℕ) (d : AdvertisedService) (old wide : ℕ) → i < length xs → old ≡ name_width (take i xs)
-    → wide ≡ length (name_text (get_or xs i d).0.name) → max old wide ≡ name_width (take (i + 1) xs)
-width_more xs i d old wide lt was is =
-    rw (was, is) (sym (wide_more (take i xs) (get_or xs i d)) ∙ ap name_width (sym (take_more xs i d lt)))
+pub width_more : {X : Type 0} (f : X → List ℕ) (xs : List X) (i : ℕ) (d : X) (old wide : ℕ) → i < length xs → old ≡ widest f (take i xs)
+    → wide ≡ length (f (get_or xs i d)) → max old wide ≡ widest f (take (i + 1) xs)
+width_more f xs i d old wide lt was is =
+    rw (was, is) (sym (wide_more f (take i xs) (get_or xs i d)) ∙ ap (widest f) (sym (take_more xs i d lt)))
 
--- the column of known names is as wide as one more name needs
-known_wide_more : (xs : List ServiceSpelled) (x : ServiceSpelled) → known_name_width (xs ++ x ∷ []) ≡ max (known_name_width xs) (length x.name)
-known_wide_more [] x = omega arith
-known_wide_more (y ∷ xs) x = omega (arith, known_wide_more xs x)
-
-pub known_width_more : {X : Type 0} (g : X → ServiceSpelled) (xs : List X) (i : ℕ) (d : X) (old wide : ℕ) → i < length xs → old ≡ known_name_width (map g (take i xs))
-    → wide ≡ length (g (get_or xs i d)).name → max old wide ≡ known_name_width (map g (take (i + 1) xs))
-known_width_more g xs i d old wide lt was is =
-    rw (was, is) (sym (known_wide_more (map g (take i xs)) (g (get_or xs i d)))
-    ∙ ap known_name_width (sym (map-append g (take i xs) (get_or xs i d ∷ [])) ∙ ap (map g) (sym (take_more xs i d lt))))
+pub known_width_more : {X W : Type 0} (f : W → List ℕ) (g : X → W) (xs : List X) (i : ℕ) (d : X) (old wide : ℕ) → i < length xs → old ≡ widest f (map g (take i xs))
+    → wide ≡ length (f (g (get_or xs i d))) → max old wide ≡ widest f (map g (take (i + 1) xs))
+known_width_more f g xs i d old wide lt was is =
+    rw (was, is) (sym (wide_more f (map g (take i xs)) (g (get_or xs i d)))
+    ∙ ap (widest f) (sym (map-append g (take i xs) (get_or xs i d ∷ [])) ∙ ap (map g) (sym (take_more xs i d lt))))
 
 -- times, and later ones
 between_on : (from : ℕ) (ms ns : List ℕ) (mid to : ℕ) → PassBetween from ms mid → PassBetween mid ns to → PassBetween from (ms ++ ns) to

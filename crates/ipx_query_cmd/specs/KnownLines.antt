@@ -1,13 +1,13 @@
 -- What an operator is shown of a router's table file. Defined by this project. The entry points are
 -- `known_networks_text` and `known_services_text`.
-use Rattle.std.specs.Prelude.{ℕ, ◌+◌, ◌==◌, ◌||◌, List, [], ◌∷◌, ◌++◌, Bool, codes, filter, if◌then◌else◌, length, max}
+use Rattle.std.specs.Prelude.{ℕ, ◌+◌, ◌==◌, ◌||◌, List, [], ◌∷◌, ◌++◌, Bool, codes, filter, if◌then◌else◌, length}
 use Rattle.std.specs.List.{flat_map}
 use Rattle.std.specs.Str.{bytes_eq}
 use Rattle.ipx_router.specs.declared.port.Port.{Port}
 use Rattle.ipx_config.specs.Checked.{shown_text}
 use Rattle.ipx_table_dump.specs.TableParts.{OwnSpelled, own_networks_read}
 use Rattle.ipx_table_dump.specs.TableRead.{NetworkSpelled, ServiceSpelled, networks_read, services_read}
-use Rattle.ipx_query_cmd.specs.OperatorLines.{AdvertisedNetwork, at_left, at_right, json_byte, network_digits, network_json, network_row, service_head, count_with_noun, type_digits}
+use Rattle.ipx_query_cmd.specs.OperatorLines.{AdvertisedNetwork, at_left, at_right, json_byte, network_digits, network_json, network_row, service_head, count_with_noun, type_digits, type_name, type_text, widest}
 
 -- the last line: how many there are, and in which file
 abbrev pub written_in : List ℕ → List ℕ → List ℕ
@@ -72,16 +72,19 @@ abbrev pub services_of_type : ℕ → List ServiceSpelled → List ServiceSpelle
 services_of_type kind services =
     filter (λ s. (kind == 0xffff) || bytes_eq s.kind (type_digits kind)) services
 
-abbrev pub known_name_width : List ServiceSpelled → ℕ
-known_name_width [] = 4
-known_name_width (s ∷ services) = max (length s.name) (known_name_width services)
+abbrev pub kind_of_known : ServiceSpelled → List ℕ
+kind_of_known s = type_text s.kind
+
+abbrev pub name_of_known : ServiceSpelled → List ℕ
+name_of_known s = s.name
 
 abbrev pub known_place_columns : ServiceSpelled → List ℕ
 known_place_columns s = s.network ++ (codes "  " ++ (s.node ++ (codes "  " ++ s.socket)))
 
-abbrev pub known_service_row : ℕ → ServiceSpelled → List ℕ
-known_service_row width s =
-    s.kind ++ (codes "  " ++ (at_left width s.name ++ (codes "  " ++ (known_place_columns s
+abbrev pub known_service_row : ℕ → ℕ → ServiceSpelled → List ℕ
+known_service_row kinds names s =
+    at_left kinds (kind_of_known s) ++ (codes "  " ++ (at_left names (name_of_known s)
+    ++ (codes "  " ++ (known_place_columns s
     ++ (codes "    " ++ (at_right 4 s.hops ++ (codes "  " ++ (s.next ++ codes "\n"))))))))
 
 -- a byte of a name that already has the form of `name_text`, within JSON quotes
@@ -95,14 +98,15 @@ known_place_json s =
 
 abbrev pub known_service_json : ServiceSpelled → List ℕ
 known_service_json s =
-    codes "{\"type\":\"" ++ (s.kind ++ (codes "\",\"name\":\"" ++ (flat_map known_json_byte s.name
+    codes "{\"type\":\"" ++ (s.kind ++ (codes "\",\"type_name\":\"" ++ (type_name s.kind
+    ++ (codes "\",\"name\":\"" ++ (flat_map known_json_byte s.name
     ++ (codes "\"," ++ (known_place_json s ++ (codes ",\"hops\":" ++ (s.hops
-    ++ (codes ",\"by\":\"" ++ (s.next ++ codes "\"}\n")))))))))
+    ++ (codes ",\"by\":\"" ++ (s.next ++ codes "\"}\n")))))))))))
 
 abbrev pub known_services_table : List ℕ → List ServiceSpelled → List ℕ
 known_services_table place services =
-    service_head (known_name_width services)
-    ++ (flat_map (known_service_row (known_name_width services)) services
+    service_head (widest kind_of_known services) (widest name_of_known services)
+    ++ (flat_map (known_service_row (widest kind_of_known services) (widest name_of_known services)) services
     ++ written_in (count_with_noun (length services) (codes "1 service") (codes " services")) place)
 
 -- the best offer of each service of a type that neighbours advertised

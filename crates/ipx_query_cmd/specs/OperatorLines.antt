@@ -5,6 +5,7 @@ use Rattle.std.specs.Fmt.{decimal}
 use Rattle.std.specs.Int.{w16, w32, to_be_bytes}
 use Rattle.std.specs.List.{before_first, flat_map}
 use Rattle.std.specs.List.{repeat}
+use Rattle.std.specs.Str.{bytes_eq}
 use Rattle.hex.specs.Hex.{encode_lower}
 use Rattle.ipx_wire.specs.declared.address.Address.{Address}
 use Rattle.ipx_wire.specs.declared.address.Network.{Network}
@@ -93,24 +94,53 @@ networks_text json listed answers =
 
 -- ---- services
 
--- the width of the name column: that of the longest name, and at least that of its heading
-abbrev pub name_width : List AdvertisedService → ℕ
-name_width [] = 4
-name_width (told ∷ listed) = max (length (name_text told.0.name)) (name_width listed)
+-- what a well-known type of service is, by its digits: nothing if it is not one of these. Novell published them
+abbrev pub type_name : List ℕ → List ℕ
+type_name digits =
+    if bytes_eq digits (codes "0003") then codes "print queue"
+    else (if bytes_eq digits (codes "0004") then codes "file server"
+    else (if bytes_eq digits (codes "0005") then codes "job server"
+    else (if bytes_eq digits (codes "0006") then codes "gateway"
+    else (if bytes_eq digits (codes "0007") then codes "print server"
+    else (if bytes_eq digits (codes "0009") then codes "archive server"
+    else (if bytes_eq digits (codes "0024") then codes "remote bridge"
+    else (if bytes_eq digits (codes "0047") then codes "advertising print server"
+    else (if bytes_eq digits (codes "0107") then codes "remote console"
+    else (if bytes_eq digits (codes "026b") then codes "time synchronization"
+    else (if bytes_eq digits (codes "0278") then codes "directory tree"
+    else []))))))))))
+
+-- a type as a table has it: its digits, and then its name if it has one
+abbrev pub type_text : List ℕ → List ℕ
+type_text digits =
+    if length (type_name digits) == 0 then digits else digits ++ (codes " " ++ type_name digits)
+
+-- the width of a column: that of its longest text, and at least four, that of its heading
+abbrev pub widest : {X : Type 0} → (X → List ℕ) → List X → ℕ
+widest text [] = 4
+widest text (x ∷ xs) = max (length (text x)) (widest text xs)
+
+-- the column of the type, and that of the name
+abbrev pub kind_of_told : AdvertisedService → List ℕ
+kind_of_told told = type_text (type_digits told.0.kind)
+
+abbrev pub name_of_told : AdvertisedService → List ℕ
+name_of_told told = name_text told.0.name
 
 abbrev pub place_columns : Address → List ℕ
 place_columns at =
     network_digits at.network ++ (codes "  " ++ (node_digits at.node
     ++ (codes "  " ++ socket_digits at.socket)))
 
-abbrev pub service_head : ℕ → List ℕ
-service_head width =
-    codes "type  " ++ (at_left width (codes "name")
-    ++ codes "  network   node          socket  hops  by\n")
+-- the widths of these two columns come first
+abbrev pub service_head : ℕ → ℕ → List ℕ
+service_head kinds names =
+    at_left kinds (codes "type") ++ (codes "  " ++ (at_left names (codes "name")
+    ++ codes "  network   node          socket  hops  by\n"))
 
-abbrev pub service_row : ℕ → AdvertisedService → List ℕ
-service_row width told =
-    type_digits told.0.kind ++ (codes "  " ++ (at_left width (name_text told.0.name)
+abbrev pub service_row : ℕ → ℕ → AdvertisedService → List ℕ
+service_row kinds names told =
+    at_left kinds (kind_of_told told) ++ (codes "  " ++ (at_left names (name_of_told told)
     ++ (codes "  " ++ (place_columns told.2.at ++ (codes "    "
     ++ (at_right 4 (decimal told.2.hops) ++ (codes "  "
     ++ (node_digits told.1.neighbour ++ codes "\n"))))))))
@@ -135,14 +165,16 @@ place_json at =
 
 abbrev pub service_json : AdvertisedService → List ℕ
 service_json told =
-    codes "{\"type\":\"" ++ (type_digits told.0.kind ++ (codes "\",\"name\":\""
+    codes "{\"type\":\"" ++ (type_digits told.0.kind ++ (codes "\",\"type_name\":\""
+    ++ (type_name (type_digits told.0.kind) ++ (codes "\",\"name\":\""
     ++ (json_name told.0.name ++ (codes "\"," ++ (place_json told.2.at ++ (codes ",\"hops\":"
     ++ (decimal told.2.hops ++ (codes ",\"by\":\"" ++ (node_digits told.1.neighbour
-    ++ codes "\"}\n")))))))))
+    ++ codes "\"}\n")))))))))))
 
 abbrev pub services_table : List AdvertisedService → List AnswerTime → List ℕ
 services_table listed answers =
-    service_head (name_width listed) ++ (flat_map (service_row (name_width listed)) listed
+    service_head (widest kind_of_told listed) (widest name_of_told listed)
+    ++ (flat_map (service_row (widest kind_of_told listed) (widest name_of_told listed)) listed
     ++ after_text (count_with_noun (length listed) (codes "1 service") (codes " services")) answers)
 
 abbrev pub services_text : Bool → List AdvertisedService → List AnswerTime → List ℕ

@@ -4,15 +4,15 @@ ghost use Rattle.std.specs.Prelude.{◌≡◌, ◌==◌, ◌||◌, IfOk, filter,
 ghost use Rattle.std.specs.List.{flat_map};
 ghost use Rattle.std.specs.Str.{bytes_eq};
 ghost use Rattle.ipx_table_dump.specs.TableRead.{service_spelled, services_read};
-ghost use Rattle.ipx_query_cmd.specs.OperatorLines.{type_digits};
-ghost use Rattle.ipx_query_cmd.specs.KnownLines.{known_json_byte, known_name_width, known_place_columns, known_place_json, known_service_json, known_service_row, known_services_table, known_services_text, services_of_type};
+ghost use Rattle.ipx_query_cmd.specs.OperatorLines.{type_digits, widest};
+ghost use Rattle.ipx_query_cmd.specs.KnownLines.{kind_of_known, known_json_byte, known_place_columns, known_place_json, known_service_json, known_service_row, known_services_table, known_services_text, name_of_known, services_of_type};
 
 use crate::columns::{at_left, at_right, type_to_digits};
 use crate::fault::KnownFault;
 use crate::known_lines::{word_in, written_to_line};
 use crate::last_line::count_to_text;
 use crate::names::json_byte_to_text;
-use crate::service_lines::{HEAD, head_to_line};
+use crate::service_lines::{HEAD, head_to_line, type_name, type_to_text};
 use ipx_table_dump::{ServiceWords, services_of_text};
 use std::alloc::{AllocError, Global};
 
@@ -45,9 +45,21 @@ fn services_of_type<'a>(
     Ok(found)
 }
 
+/// The width of the type column.
+fn type_width(alloc: Global, services: &[ServiceWords<'_>]) -> Result<usize, KnownFault>
+    ensures { IfOk result (λ w. w ≡ widest kind_of_known (map service_spelled services.now)) }
+{
+    let mut width = HEAD;
+    for service in services {
+        let kind = type_to_text(alloc, word_in(service.kind)?)?;
+        width = width.max(kind.as_bytes().len());
+    }
+    Ok(width)
+}
+
 /// The width of the name column.
 fn name_width(services: &[ServiceWords<'_>]) -> usize
-    ensures { result ≡ known_name_width (map service_spelled services.now) }
+    ensures { result ≡ widest name_of_known (map service_spelled services.now) }
 {
     let mut width = HEAD;
     for service in services {
@@ -69,14 +81,16 @@ fn place_to_columns(alloc: Global, service: &ServiceWords<'_>) -> Result<String,
 
 fn known_to_row(
     alloc: Global,
-    width: usize,
+    kinds: usize,
+    names: usize,
     service: &ServiceWords<'_>,
 ) -> Result<String, KnownFault>
     ensures { IfOk result (λ t. string_bytes t
-        ≡ known_service_row width (service_spelled service.now)) }
+        ≡ known_service_row kinds names (service_spelled service.now)) }
 {
-    let kind = word_in(service.kind)?;
-    let name = at_left(alloc, width, word_in(service.name)?)?;
+    let kind = type_to_text(alloc, word_in(service.kind)?)?;
+    let kind = at_left(alloc, kinds, &kind)?;
+    let name = at_left(alloc, names, word_in(service.name)?)?;
     let place = place_to_columns(alloc, service)?;
     let hops = at_right(alloc, 4, word_in(service.hops)?)?;
     let by = word_in(service.next)?;
@@ -121,27 +135,29 @@ fn known_to_json(alloc: Global, service: &ServiceWords<'_>) -> Result<String, Kn
     ensures { IfOk result (λ t. string_bytes t ≡ known_service_json (service_spelled service.now)) }
 {
     let kind = word_in(service.kind)?;
+    let what = type_name(kind);
     let name = name_to_json(alloc, service.name)?;
     let place = place_to_json(alloc, service)?;
     let hops = word_in(service.hops)?;
     let by = word_in(service.next)?;
     let line = format!(in alloc;
-        "{{\"type\":\"{kind}\",\"name\":\"{name}\",{place},\"hops\":{hops},\"by\":\"{by}\"}}\n"
+        "{{\"type\":\"{kind}\",\"type_name\":\"{what}\",\"name\":\"{name}\",{place},\"hops\":{hops},\"by\":\"{by}\"}}\n"
     )?;
     Ok(line)
 }
 
 fn knowns_to_rows(
     alloc: Global,
-    width: usize,
+    kinds: usize,
+    names: usize,
     services: &[ServiceWords<'_>],
 ) -> Result<String, KnownFault>
     ensures { IfOk result (λ t. string_bytes t
-        ≡ flat_map (known_service_row width) (map service_spelled services.now)) }
+        ≡ flat_map (known_service_row kinds names) (map service_spelled services.now)) }
 {
     let mut rows = String::new(alloc);
     for service in services {
-        let row = known_to_row(alloc, width, service)?;
+        let row = known_to_row(alloc, kinds, names, service)?;
         rows.push_str(&row)?;
     }
     Ok(rows)
@@ -167,9 +183,10 @@ fn knowns_to_table(
     ensures { IfOk result (λ t. string_bytes t
         ≡ known_services_table place.now (map service_spelled services.now)) }
 {
-    let width = name_width(services);
-    let head = head_to_line(alloc, width)?;
-    let rows = knowns_to_rows(alloc, width, services)?;
+    let kinds = type_width(alloc, services)?;
+    let names = name_width(services);
+    let head = head_to_line(alloc, kinds, names)?;
+    let rows = knowns_to_rows(alloc, kinds, names, services)?;
     let count = count_to_text(alloc, services.len(), "1 service", " services")?;
     let last = written_to_line(alloc, &count, place)?;
     let table = format!(in alloc; "{head}{rows}{last}")?;

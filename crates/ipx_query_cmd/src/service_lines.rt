@@ -2,7 +2,7 @@
 
 ghost use Rattle.std.specs.Prelude.{◌≡◌, IfOk, string_bytes};
 ghost use Rattle.std.specs.List.{flat_map};
-ghost use Rattle.ipx_query_cmd.specs.OperatorLines.{name_width, place_columns, place_json, service_head, service_json, service_row, services_table, services_text};
+ghost use Rattle.ipx_query_cmd.specs.OperatorLines.{kind_of_told, name_of_told, place_columns, place_json, service_head, service_json, service_row, services_table, services_text, type_name, type_text, widest};
 
 use crate::answer_times::AnswerTime;
 use crate::columns::{
@@ -17,12 +17,63 @@ use std::alloc::{AllocError, Global};
 /// A service, the router that advertises it, and its distance and address.
 type AdvertisedService = (ServiceKey, Source, ServiceMetric);
 
-/// The least width of the name column: that of its heading.
+/// The least width of the columns of types and names: that of their headings.
 pub const HEAD: usize = 4;
+
+/// What a well-known type of service is, by its digits; nothing if it is not one of these. Novell published them.
+pub fn type_name(digits: &str) -> &'static str
+    ensures { result ≡ type_name digits.now }
+{
+    match digits {
+        "0003" => "print queue",
+        "0004" => "file server",
+        "0005" => "job server",
+        "0006" => "gateway",
+        "0007" => "print server",
+        "0009" => "archive server",
+        "0024" => "remote bridge",
+        "0047" => "advertising print server",
+        "0107" => "remote console",
+        "026b" => "time synchronization",
+        "0278" => "directory tree",
+        _ => "",
+    }
+}
+
+/// A type as a table has it: its digits, and then its name if it has one.
+pub fn type_to_text(alloc: Global, digits: &str) -> Result<String, AllocError>
+    ensures { IfOk result (λ t. string_bytes t ≡ type_text digits.now) }
+{
+    let name = type_name(digits);
+    if name.is_empty() {
+        return String::from_str(alloc, digits);
+    }
+    format!(in alloc; "{digits} {name}")
+}
+
+/// The type of a service, as a table has it.
+fn kind_to_text(alloc: Global, told: &AdvertisedService) -> Result<String, AllocError>
+    ensures { IfOk result (λ t. string_bytes t ≡ kind_of_told told.now) }
+{
+    let digits = type_to_digits(alloc, told.0.kind)?;
+    type_to_text(alloc, &digits)
+}
+
+/// The width of the type column.
+fn type_width(alloc: Global, listed: &[AdvertisedService]) -> Result<usize, AllocError>
+    ensures { IfOk result (λ w. w ≡ widest kind_of_told listed.now) }
+{
+    let mut width = HEAD;
+    for told in listed {
+        let kind = kind_to_text(alloc, told)?;
+        width = width.max(kind.as_bytes().len());
+    }
+    Ok(width)
+}
 
 /// The width of the name column.
 fn name_width(alloc: Global, listed: &[AdvertisedService]) -> Result<usize, AllocError>
-    ensures { IfOk result (λ w. w ≡ name_width listed.now) }
+    ensures { IfOk result (λ w. w ≡ widest name_of_told listed.now) }
 {
     let mut width = HEAD;
     for told in listed {
@@ -44,15 +95,17 @@ fn place_to_columns(alloc: Global, at: Address) -> Result<String, AllocError>
 
 fn service_to_row(
     alloc: Global,
-    width: usize,
+    kinds: usize,
+    names: usize,
     told: &AdvertisedService,
 ) -> Result<String, AllocError>
-    ensures { IfOk result (λ t. string_bytes t ≡ service_row width told.now) }
+    ensures { IfOk result (λ t. string_bytes t ≡ service_row kinds names told.now) }
 {
     let (key, source, metric) = *told;
-    let kind = type_to_digits(alloc, key.kind)?;
+    let kind = kind_to_text(alloc, told)?;
+    let kind = at_left(alloc, kinds, &kind)?;
     let name = name_to_text(alloc, &key.name)?;
-    let name = at_left(alloc, width, &name)?;
+    let name = at_left(alloc, names, &name)?;
     let place = place_to_columns(alloc, metric.at)?;
     let hops = number_at_right(alloc, 4, metric.hops)?;
     let by = node_to_digits(alloc, source.neighbour)?;
@@ -73,25 +126,27 @@ fn service_to_json(alloc: Global, told: &AdvertisedService) -> Result<String, Al
 {
     let (key, source, metric) = *told;
     let kind = type_to_digits(alloc, key.kind)?;
+    let what = type_name(&kind);
     let name = name_to_json(alloc, &key.name)?;
     let place = place_to_json(alloc, metric.at)?;
     let hops = metric.hops;
     let by = node_to_digits(alloc, source.neighbour)?;
     format!(in alloc;
-        "{{\"type\":\"{kind}\",\"name\":\"{name}\",{place},\"hops\":{hops},\"by\":\"{by}\"}}\n"
+        "{{\"type\":\"{kind}\",\"type_name\":\"{what}\",\"name\":\"{name}\",{place},\"hops\":{hops},\"by\":\"{by}\"}}\n"
     )
 }
 
 fn services_to_rows(
     alloc: Global,
-    width: usize,
+    kinds: usize,
+    names: usize,
     listed: &[AdvertisedService],
 ) -> Result<String, AllocError>
-    ensures { IfOk result (λ t. string_bytes t ≡ flat_map (service_row width) listed.now) }
+    ensures { IfOk result (λ t. string_bytes t ≡ flat_map (service_row kinds names) listed.now) }
 {
     let mut rows = String::new(alloc);
     for told in listed {
-        let row = service_to_row(alloc, width, told)?;
+        let row = service_to_row(alloc, kinds, names, told)?;
         rows.push_str(&row)?;
     }
     Ok(rows)
@@ -108,12 +163,13 @@ fn services_to_json(alloc: Global, listed: &[AdvertisedService]) -> Result<Strin
     Ok(lines)
 }
 
-/// The heading of a table whose name column has this width.
-pub fn head_to_line(alloc: Global, width: usize) -> Result<String, AllocError>
-    ensures { IfOk result (λ t. string_bytes t ≡ service_head width) }
+/// The heading of a table whose columns of types and names have these widths.
+pub fn head_to_line(alloc: Global, kinds: usize, names: usize) -> Result<String, AllocError>
+    ensures { IfOk result (λ t. string_bytes t ≡ service_head kinds names) }
 {
-    let name = at_left(alloc, width, "name")?;
-    format!(in alloc; "type  {name}  network   node          socket  hops  by\n")
+    let kind = at_left(alloc, kinds, "type")?;
+    let name = at_left(alloc, names, "name")?;
+    format!(in alloc; "{kind}  {name}  network   node          socket  hops  by\n")
 }
 
 fn services_to_table(
@@ -123,9 +179,10 @@ fn services_to_table(
 ) -> Result<String, AllocError>
     ensures { IfOk result (λ t. string_bytes t ≡ services_table listed.now answers.now) }
 {
-    let width = name_width(alloc, listed)?;
-    let head = head_to_line(alloc, width)?;
-    let rows = services_to_rows(alloc, width, listed)?;
+    let kinds = type_width(alloc, listed)?;
+    let names = name_width(alloc, listed)?;
+    let head = head_to_line(alloc, kinds, names)?;
+    let rows = services_to_rows(alloc, kinds, names, listed)?;
     let count = count_to_text(alloc, listed.len(), "1 service", " services")?;
     let last = answers_to_line(alloc, &count, answers)?;
     format!(in alloc; "{head}{rows}{last}")

@@ -84,15 +84,15 @@ fn services_in_a_table(rt: HostRuntime) -> Result<(), Fail> {
         tenths: 11,
     }];
     let one = services_to_text(alloc, false, &[service(b"HQ-FILES", 1)], &answers)?;
-    let wanted = "type  name      network   node          socket  hops  by\n\
-        0004  HQ-FILES  00000a01  000000000001  0451       1  00000a010001\n\
+    let wanted = "type              name      network   node          socket  hops  by\n\
+        0004 file server  HQ-FILES  00000a01  000000000001  0451       1  00000a010001\n\
         1 service, 00000a010001 answered in 1.1 ms\n";
     assert_eq!(rt; one.as_str(), wanted);
     let odd = [service(b"A B\\\xff\"", 15), service(b"", 2)];
     let text = services_to_text(alloc, false, &odd, &[])?;
-    let wanted = "type  name             network   node          socket  hops  by\n\
-        0004  A\\x20B\\x5c\\xff\"  00000a01  000000000001  0451      15  00000a010001\n\
-        0004  -                00000a01  000000000001  0451       2  00000a010001\n\
+    let wanted = "type              name             network   node          socket  hops  by\n\
+        0004 file server  A\\x20B\\x5c\\xff\"  00000a01  000000000001  0451      15  00000a010001\n\
+        0004 file server  -                00000a01  000000000001  0451       2  00000a010001\n\
         2 services\n";
     assert_eq!(rt; text.as_str(), wanted);
     let none = services_to_text(alloc, false, &[], &[])?;
@@ -108,9 +108,9 @@ fn services_as_json(rt: HostRuntime) -> Result<(), Fail> {
     let alloc = rt.alloc();
     let odd = [service(b"A \"\\", 15), service(b"", 2)];
     let text = services_to_text(alloc, true, &odd, &[])?;
-    let wanted = "{\"type\":\"0004\",\"name\":\"A\\\\x20\\\"\\\\x5c\",\"network\":\"00000a01\",\
+    let wanted = "{\"type\":\"0004\",\"type_name\":\"file server\",\"name\":\"A\\\\x20\\\"\\\\x5c\",\"network\":\"00000a01\",\
         \"node\":\"000000000001\",\"socket\":\"0451\",\"hops\":15,\"by\":\"00000a010001\"}\n\
-        {\"type\":\"0004\",\"name\":\"-\",\"network\":\"00000a01\",\
+        {\"type\":\"0004\",\"type_name\":\"file server\",\"name\":\"-\",\"network\":\"00000a01\",\
         \"node\":\"000000000001\",\"socket\":\"0451\",\"hops\":2,\"by\":\"00000a010001\"}\n";
     assert_eq!(rt; text.as_str(), wanted);
     Ok(())
@@ -152,16 +152,16 @@ fn refused_lines_of_services(rt: HostRuntime) -> Result<(), Fail> {
         Ok(text) => text,
         Err(_) => services_to_text(alloc, false, &services, &[])?,
     };
-    let wanted = "type  name      network   node          socket  hops  by\n\
-        0004  A\\x20B    00000a01  000000000001  0451       1  00000a010001\n\
-        0004  HQ-FILES  00000a01  000000000001  0451       2  00000a010001\n\
+    let wanted = "type              name      network   node          socket  hops  by\n\
+        0004 file server  A\\x20B    00000a01  000000000001  0451       1  00000a010001\n\
+        0004 file server  HQ-FILES  00000a01  000000000001  0451       2  00000a010001\n\
         2 services\n";
     assert_eq!(rt; text.as_str(), wanted);
     let text = match services_to_text(alloc, true, &services[..1], &[]) {
         Ok(text) => text,
         Err(_) => services_to_text(alloc, true, &services[..1], &[])?,
     };
-    let wanted = "{\"type\":\"0004\",\"name\":\"A\\\\x20B\",\"network\":\"00000a01\",\
+    let wanted = "{\"type\":\"0004\",\"type_name\":\"file server\",\"name\":\"A\\\\x20B\",\"network\":\"00000a01\",\
         \"node\":\"000000000001\",\"socket\":\"0451\",\"hops\":1,\"by\":\"00000a010001\"}\n";
     assert_eq!(rt; text.as_str(), wanted);
     Ok(())

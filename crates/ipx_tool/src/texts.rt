@@ -299,10 +299,11 @@ The services that the routers of a host know, and their addresses
 
 Asks as networks does, with a SAP query for the services of TYPE, four hex digits, or for all. It
 prints a line for each service, the best answer by hops and address, and the router that gave it:
-  type  name      network   node          socket  hops  by
-  0004  HQ-FILES  00000a01  000000000001  0451       1  00000a010001
-and then how many there are, who answered, and how soon. Names are printed as show prints them. A
-router does not list services on the host's own network, nor those that are reached through it.
+  type              name      network   node          socket  hops  by
+  0004 file server  HQ-FILES  00000a01  000000000001  0451       1  00000a010001
+and then how many there are, who answered, and how soon. A well-known type has its name beside it.
+Names of services are printed as show prints them. A router does not list services on the host's
+own network, nor those that are reached through it.
 If HOST is the configuration file of a router, it prints what the router last wrote, as networks
 does.";
 

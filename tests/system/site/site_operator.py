@@ -7,7 +7,7 @@ import threading
 import time
 
 from site_packets import ipx, rip_response, sap_response
-from site_tables import ITS_ADDRESS, check_tables, start_unwritten
+from site_tables import ITS_ADDRESS, TYPE_NAMES, check_tables, start_unwritten, type_text
 from site_world import bound, listed, node, port_table, until
 
 # Three routers in a chain, with a host and a server at each end; and one that knows as much as it may.
@@ -53,9 +53,9 @@ def network_table(networks, by):
 
 
 def service_table(services, by):
-    wide = max([4, *(len(name) for _, name, _, _ in services)])
-    return f"type  {'name'.ljust(wide)}  network   node          socket  hops  by\n" + "".join(
-        f"{kind}  {name.ljust(wide)}  {place:08x}  000000000001  0451    {hops:4}  {by}\n"
+    kinds, names = (max([4, *map(len, column)]) for column in ([type_text(row[0]) for row in services], [row[1] for row in services]))
+    return f"{'type'.ljust(kinds)}  {'name'.ljust(names)}  network   node          socket  hops  by\n" + "".join(
+        f"{type_text(kind).ljust(kinds)}  {name.ljust(names)}  {place:08x}  000000000001  0451    {hops:4}  {by}\n"
         for kind, name, place, hops in services)
 
 
@@ -67,7 +67,7 @@ def network_values(networks, by):
 
 
 def service_values(services, by):
-    return [{"type": kind, "name": name, "network": f"{place:08x}", "node": "000000000001", "socket": "0451",
+    return [{"type": kind, "type_name": TYPE_NAMES.get(kind, ""), "name": name, "network": f"{place:08x}", "node": "000000000001", "socket": "0451",
              "hops": hops, "by": by} for kind, name, place, hops in services]
 
 

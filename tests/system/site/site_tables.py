@@ -25,14 +25,24 @@ HALF = "{}: not a complete tables file of a router"
 GONE = "{}: No such file or directory (os error 2)"
 
 
+# The well-known types among those that are advertised here.
+TYPE_NAMES = {"0004": "file server"}
+
+
+def type_text(kind):
+    """A type as a table has it."""
+    return f"{kind} {TYPE_NAMES[kind]}" if kind in TYPE_NAMES else kind
+
+
 def network_lines(rows):
     return "network   hops  ticks  by\n" + "".join(f"{network}  {hops:4}  {ticks:5}  {by}\n" for network, hops, ticks, by in rows)
 
 
 def service_lines(rows):
-    wide = max([4, *(len(name) for _, name, _, _, _ in rows)])
-    return f"type  {'name'.ljust(wide)}  network   node          socket  hops  by\n" + "".join(
-        f"{kind}  {name.ljust(wide)}  {place}  000000000001  0451    {hops:4}  {by}\n" for kind, name, place, hops, by in rows)
+    kinds, names = (max([4, *map(len, column)]) for column in ([type_text(row[0]) for row in rows], [row[1] for row in rows]))
+    return f"{'type'.ljust(kinds)}  {'name'.ljust(names)}  network   node          socket  hops  by\n" + "".join(
+        f"{type_text(kind).ljust(kinds)}  {name.ljust(names)}  {place}  000000000001  0451    {hops:4}  {by}\n"
+        for kind, name, place, hops, by in rows)
 
 
 def network_values(rows):
@@ -40,7 +50,7 @@ def network_values(rows):
 
 
 def service_values(rows):
-    return [{"type": kind, "name": name, "network": place, "node": "000000000001", "socket": "0451", "hops": hops, "by": by}
+    return [{"type": kind, "type_name": TYPE_NAMES.get(kind, ""), "name": name, "network": place, "node": "000000000001", "socket": "0451", "hops": hops, "by": by}
             for kind, name, place, hops, by in rows]
 
 

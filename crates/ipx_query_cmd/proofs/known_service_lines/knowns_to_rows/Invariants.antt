@@ -5,4 +5,4 @@ use Rattle.ipx_query_cmd.specs.KnownLines.{known_service_row}
 use Rattle.ipx_query_cmd.proofs.known_service_lines.knowns_to_rows.Given as goal
 
 abbrev pub invariant-loop-service : goal.invariant-loop-service
-invariant-loop-service l = string_bytes l.rows ≡ flat_map (known_service_row l.width) (map service_spelled (take l.service-index l.services))
+invariant-loop-service l = string_bytes l.rows ≡ flat_map (known_service_row l.kinds l.names) (map service_spelled (take l.service-index l.services))

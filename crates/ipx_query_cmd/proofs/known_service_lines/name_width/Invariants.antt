@@ -1,7 +1,8 @@
 use Rattle.std.proofs.Common.{◌≡◌, map, take}
 use Rattle.ipx_table_dump.specs.TableRead.{service_spelled}
-use Rattle.ipx_query_cmd.specs.KnownLines.{known_name_width}
+use Rattle.ipx_query_cmd.specs.KnownLines.{name_of_known}
+use Rattle.ipx_query_cmd.specs.OperatorLines.{widest}
 use Rattle.ipx_query_cmd.proofs.known_service_lines.name_width.Given as goal
 
 abbrev pub invariant-loop-service : goal.invariant-loop-service
-invariant-loop-service l = l.width ≡ known_name_width (map service_spelled (take l.service-index l.services))
+invariant-loop-service l = l.width ≡ widest name_of_known (map service_spelled (take l.service-index l.services))
