@@ -22,7 +22,7 @@ pub const HEAD: usize = 4;
 
 /// What a well-known type of service is, by its digits; nothing if it is not one of these. Novell published them.
 pub fn type_name(digits: &str) -> &'static str
-    ensures { result ≡ type_name digits.now }
+    ensures { result.now ≡ type_name digits.now }
 {
     match digits {
         "0003" => "print queue",
