@@ -16,9 +16,8 @@ use Rattle.ipx_sockets.specs.Polling.{WaitsOnce, numbers_come}
 use Rattle.ipx_rate_limits.specs.PortLimits.{limits_of}
 use Rattle.ipx_site.specs.NewRouters.{HasFilteredNothing, IsUncounted}
 use Rattle.ipx_site.specs.PortsView.{ways_in}
-use Rattle.ipx_site.specs.RouterMetrics.{CountsRound}
 use Rattle.ipx_site.specs.RouterRounds.{IsRound, SleepsAfter}
-use Rattle.ipx_site.specs.RouterWork.{WorksInRound}
+use Rattle.ipx_site.specs.RouterWork.{WorksInRound, notes_of}
 use Rattle.ipx_site.specs.RoutingRuns.{HasDoneNothing, KnowsNothing, Rounds, RoutesWell, RunsTo, StartsBy, StartsByFile, TakesRound, WritesFilesOf}
 use Rattle.ipx_config.specs.Site.{IsSiteText}
 use Rattle.ipx_site.specs.RouterMarks.{AreIndicesDistinct}
@@ -44,12 +43,12 @@ pub took_round : {R T E : Type 0} (old new : RunningRouter R) (r : Result T E)
     × AfterMarks (λ ended. IsRound old.clock between StopsThere NeverGoesBack old.ports ended old.asked new.asked old.core new.core new.ports.ethernet.moment batch
     × SleepsAfter (IsDue (deadlines new.asked new.looked new.responses new.written new.core new.warnings new.client_log (happened new.totals new.core new.ports) new.ports.servers.servers.items)) (is_any_marked (marks_in ended)) between new.clock StopsThere time batch.fault batch.quiet
     × OnOk r (AreMarked (numbers_come new.ready) (marks_in ended) (marks_in new.ports))) new.ports
-    × WaitsOnce time old.ready new.ready × CountsRound batch old.totals new.totals
-    × WorksInRound old.ports old.core new.ports.ethernet.moment old.asked new.asked batch old.totals new.totals old.warnings new.warnings old.drops new.drops old.written new.written
+    × WaitsOnce time old.ready new.ready
+    × WorksInRound old.ports old.core new.ports.ethernet.moment old.asked new.asked batch (notes_of old) (notes_of new)
     → is_err r ≡ new.ready.failed → new.ports.servers.moment ≡ new.ports.ethernet.moment → ways_in new.ports ≡ ways_in old.ports
     → peers_of new.ports.datagrams.peers.items ≡ peers_of old.ports.datagrams.peers.items → new.ports.port_indices.items ≡ old.ports.port_indices.items
     → map access_by new.ports.datagrams.device.access_lists.items ≡ map access_by old.ports.datagrams.device.access_lists.items → TakesRound old new
-took_round old new r (between, batch, time, (ended, (round, sleeps, marked), differ), waits, totals, work) failed moments transmissions peers port_indices access = record {
+took_round old new r (between, batch, time, (ended, (round, sleeps, marked), differ), waits, work) failed moments transmissions peers port_indices access = record {
   between = between;
   batch = batch;
   time = time;
@@ -59,7 +58,6 @@ took_round old new r (between, batch, time, (ended, (round, sleeps, marked), dif
     differ,
   );
   waits = waits;
-  totals = totals;
   work = work;
   moments = moments;
   transmissions = transmissions;

@@ -1,5 +1,6 @@
 -- What a running router does in a round besides its turns.
-use Rattle.std.proofs.Common.{◌≡◌, ◌∙◌, ℕ, Option, subst, sym}
+use Rattle.std.proofs.Common.{◌≡◌, ℕ, true, false, Result, Ok, Err, subst, sym}
+use Rattle.std.specs.Prelude.{OnErr, OnOk, is_err}
 use Rattle.ipx_carrier.specs.declared.datagrams.Datagrams as OfDevice
 use Rattle.ipx_carrier.specs.declared.report.Batch.{Batch}
 use Rattle.ipx_ethernet_ports.specs.declared.end_sockets.EndSockets as OfSockets
@@ -8,32 +9,43 @@ use Rattle.ipx_ipxnet_ports.specs.declared.place_sockets.PlaceSockets as OfPlace
 use Rattle.ipx_ipxnet_ports.specs.declared.sockets.ServerSockets.{ServerSockets}
 use Rattle.ipx_sockets.specs.declared.source_filter.SourceFilter.{SourceFilter}
 use Rattle.ipx_sockets.specs.declared.sockets.UdpSockets.{UdpSockets}
-use Rattle.ipx_sockets.specs.Moments.{AreLoggedIfDue}
-use Rattle.ipx_site.specs.DropLog.{AreDropsLogged}
-use Rattle.ipx_site.specs.IdleTime.{counts_to_log, happened}
 use Rattle.ipx_site.specs.PortsView.{SitePortsRun}
-use Rattle.ipx_site.specs.RouterRounds.{AsksAgain}
-use Rattle.ipx_site.specs.RouterWork.{IsDoneIfDue, WorksInRound}
+use Rattle.ipx_site.specs.RouterWork.{WorksInRound}
 use Rattle.ipx_site.specs.SiteCore.{SiteCore}
+use Rattle.ipx_site.specs.WorkRefusals.{DoesUnless, Refusals, WorkNotes}
 use Rattle.ipx_site.specs.declared.drop_log.DropLog.{DropLog}
 use Rattle.ipx_site.specs.declared.router_counts.RouterCounts.{RouterCounts}
 use Rattle.ipx_site.specs.declared.warnings.Warnings.{Warnings}
 
-module _ {gd : OfDevice.Ghosts (SourceFilter UdpSockets)} {ge : OfSockets.Ghosts EthernetSockets} {gl : OfPlaces.Ghosts ServerSockets} (ports : SitePortsRun gd ge gl) (core : SiteCore) (asked : ℕ) (b : Batch) (totals : RouterCounts) (warnings : Warnings) (drops : DropLog) (written : Option ℕ) where
+-- what a router did is not of what it counted and logged then
+pub does_then : {gd : OfDevice.Ghosts (SourceFilter UdpSockets)} {ge : OfSockets.Ghosts EthernetSockets} {gl : OfPlaces.Ghosts ServerSockets} (refused : Refusals) (ports : SitePortsRun gd ge gl) (core : SiteCore) (now now' : ℕ) (before after : WorkNotes)
+    (t : RouterCounts) (w : Warnings) (d : DropLog) → now' ≡ now → DoesUnless refused ports core now before after
+    → DoesUnless refused ports core now' before (record after { totals = t; warnings = w; drops = d })
+does_then refused ports core now now' before after t w d en h =
+    subst (λ (n : ℕ). DoesUnless refused ports core n before (record after { totals = t; warnings = w; drops = d })) (sym en) (record {
+      clients = h.clients;
+      known = h.known;
+      tables = h.tables;
+      metrics = h.metrics;
+      secret = h.secret;
+      tables_file = h.tables_file;
+      metrics_file = h.metrics_file;
+    })
+
+module _ {gd : OfDevice.Ghosts (SourceFilter UdpSockets)} {ge : OfSockets.Ghosts EthernetSockets} {gl : OfPlaces.Ghosts ServerSockets} (ports : SitePortsRun gd ge gl) (core : SiteCore) (asked : ℕ) (b : Batch) (before : WorkNotes) where
   -- what holds of a round does not depend on what stays the same after it
-  pub works_then : (now now' times times' : ℕ) (t t' : RouterCounts) (w w' : Warnings) (d d' : DropLog) (at at' : Option ℕ)
-      → now' ≡ now → times' ≡ times → t' ≡ t → w' ≡ w → d' ≡ d → at' ≡ at
-      → WorksInRound ports core now asked times b totals t warnings w drops d written at
-      → WorksInRound ports core now' asked times' b totals t' warnings w' drops d' written at'
-  works_then now now' times times' t t' w w' d d' at at' en ex et ew ed ea h = record {
-    mid = h.mid;
-    asks = subst (λ (n : ℕ). AsksAgain n asked times' core h.mid) (sym en) (subst (λ (x : ℕ). AsksAgain now asked x core h.mid) (sym ex) h.asks);
-    worked = h.worked;
-    faults = h.faults;
-    batch = et ∙ h.batch;
-    warns = subst (λ (n : ℕ). AreLoggedIfDue (counts_to_log (happened h.worked h.mid ports)) n warnings.causes w'.causes) (sym en)
-        (subst (λ (x : Warnings). AreLoggedIfDue (counts_to_log (happened h.worked h.mid ports)) now warnings.causes x.causes) (sym ew) h.warns);
-    logs = subst (λ (n : ℕ). AreDropsLogged h.mid.core.core.core.outcomes h.mid.drops n drops d') (sym en)
-        (subst (λ (x : DropLog). AreDropsLogged h.mid.core.core.core.outcomes h.mid.drops now drops x) (sym ed) h.logs);
-    writes = subst (λ (n : ℕ). IsDoneIfDue 10000 n written at') (sym en) (subst (λ (x : Option ℕ). IsDoneIfDue 10000 now written x) (sym ea) h.writes);
-  }
+  pub works_then : (now now' times times' : ℕ) (after after' : WorkNotes) → now' ≡ now → times' ≡ times → after' ≡ after
+      → WorksInRound ports core now asked times b before after → WorksInRound ports core now' asked times' b before after'
+  works_then now now' times times' after after' en ex ea h =
+      subst (λ (n : ℕ). WorksInRound ports core n asked times' b before after') (sym en)
+      (subst (λ (x : ℕ). WorksInRound ports core now asked x b before after') (sym ex)
+      (subst (λ (a : WorkNotes). WorksInRound ports core now asked times b before a) (sym ea) h))
+
+-- what holds of a result by what it is
+pub on_well : {T E P : Type 0} (r : Result T E) → OnOk r P → is_err r ≡ false → P
+on_well (Ok t) p h = p
+on_well (Err e) p h = absurd (let differ : true ≡ false = h in cc)
+
+pub on_refused : {T E P : Type 0} (r : Result T E) → OnErr r P → is_err r ≡ true → P
+on_refused (Ok t) p h = absurd (let differ : false ≡ true = h in cc)
+on_refused (Err e) p h = p

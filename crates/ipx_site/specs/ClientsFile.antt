@@ -1,12 +1,16 @@
 -- Which clients the file of a router's secret lists. Defined by this project.
-use Rattle.std.specs.Prelude.{◌≡◌, ℕ, ◌==◌, ◌&&◌, Bool, List, [], ◌∷◌, IsPermutation, IsSortedByKey, Option, Some, None, length, map, take}
+use Rattle.std.specs.Prelude.{◌≡◌, ◌==◌, ◌&&◌, [], ◌∷◌, ◌⊎◌, Bool, true, false, IsPermutation, IsSome, IsSortedByKey, List, None, Option, Some, length, map, take, ℕ}
 use Rattle.std.specs.List.{flat_map, list_all, list_any}
 use Rattle.std.specs.Ordering.{nat_cmp}
 use Rattle.ipx_config.specs.EthernetValues.{is_same_place}
 use Rattle.ipx_table_dump.specs.ClientsText.{max_client_places}
 use Rattle.ipx_table_dump.specs.declared.client_places.ClientPlace.{ClientPlace}
 use Rattle.ipxnet_server.specs.ServerHears.{ServerView}
+use Rattle.ipx_sockets.specs.Moments.{HasPassed}
+use Rattle.ipx_site.specs.declared.clients_file.ClientsFile.{ClientsFile}
 use Rattle.ipx_site.specs.declared.clients_file.HeardClient.{HeardClient}
+use Rattle.ipx_site.specs.declared.written_files.WriteFault.{WriteFault}
+use Rattle.ipx_site.specs.declared.written_files.WriteFault.TheVariants.{File, OutOfMemory}
 
 -- the clients of a server, each with the time at which it was heard last
 abbrev pub heard_of : ServerView → List HeardClient
@@ -38,3 +42,20 @@ have_same_clients one other = (length one == length other) && list_all (is_liste
 abbrev pub written_at_start : List ClientPlace → Option ℕ
 written_at_start [] = None
 written_at_start (c ∷ cs) = Some 0
+
+-- the clients are to be compared with the file: there is one, and a second has passed since they last were, and a
+-- minute since it was written
+abbrev pub IsClientsFileDue : ClientsFile → ℕ → Type 0
+IsClientsFileDue f now = IsSome f.path × HasPassed 1000 f.looked now × HasPassed 60000 f.written now
+
+-- the file lists those of these servers that were heard last, and was not written; or it listed others, was written
+-- at this time, and lists these
+abbrev pub IsListKept : List ServerView → ℕ → ClientsFile → ClientsFile → Type 0
+IsListKept servers now old new = (heard : List ClientPlace) × AreHeardLast servers heard
+    × (((have_same_clients heard old.listed.items ≡ true) × (new.listed ≡ old.listed) × (new.written ≡ old.written))
+    ⊎ ((have_same_clients heard old.listed.items ≡ false) × (new.listed.items ≡ heard) × (new.written ≡ Some now)))
+
+-- the system refused a file
+abbrev pub IsRefusedFile : WriteFault → Type 0
+IsRefusedFile OutOfMemory = ⊥
+IsRefusedFile (File error) = Unit {0}

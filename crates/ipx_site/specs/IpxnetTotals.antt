@@ -1,5 +1,6 @@
 -- Totals over the servers of a router's ports for ipxnet. Defined by this project.
 use Rattle.std.specs.Prelude.{◌≡◌, ◌<◌, ◌≤◌, ℕ, All, List, ◌∷◌, ◌++◌, Option, Some, None, IfSome, length, nat_lt, sum_by, if◌then◌else◌}
+use Rattle.std.specs.declared.net.socket_addr.SocketAddrV4.{SocketAddrV4}
 use Rattle.ipx_carrier.specs.Counting.{counted}
 use Rattle.ipxnet_server.specs.ServerHears.{ServerView}
 use Rattle.ipxnet_server.specs.declared.limiting.LimitedFlood.{LimitedFlood}
@@ -37,3 +38,14 @@ IsLastFlood servers (Some flood) = (front : List ServerView) × (server : Server
     × (servers ≡ front ++ server ∷ back) × (server.limited ≡ Some flood)
     × All (λ s. IfSome s.limited (λ other. other.at ≤ flood.at)) front
     × All (λ s. IfSome s.limited (λ other. other.at < flood.at)) back
+
+-- the IP address and UDP port of the player of a flood, if there was one
+abbrev pub flood_from : Option LimitedFlood → Option SocketAddrV4
+flood_from None = None
+flood_from (Some flood) = Some flood.from
+
+-- those of the player of the last flood at any port; None if there was no flood
+pub record IsOfLastFlood (servers : List ServerView) (place : Option SocketAddrV4) : Type 0 where
+  pub flood : Option LimitedFlood
+  pub last : IsLastFlood servers flood
+  pub own : place ≡ flood_from flood

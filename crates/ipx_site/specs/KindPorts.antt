@@ -68,7 +68,8 @@ server_of_port secret known p =
 -- the ports of a file as those of a router. An RFC 1234 port has its peers, its access list, and a socket
 -- with the UDP port of its peers. An Ethernet port has its switch, and a socket with the places of its
 -- remotes. An ipxnet port has its server, with this secret and notes of these clients, and a socket that accepts those
--- that may register. Each socket is bound where the file says, and was asked nothing yet
+-- that may register. Each socket is bound where the file says, was asked nothing yet, and is marked: the first turn
+-- asks it
 pub record ArePortsBound {gd : OfDevice.Ghosts (SourceFilter UdpSockets)} {ge : OfSockets.Ghosts EthernetSockets} {gl : OfPlaces.Ghosts ServerSockets} (secret : Secret) (known : List ClientPlace) (ports : List PortConfig) (r : SitePortsRun gd ge gl) : Type 0 where
   pub port_indices : r.port_indices.items ≡ port_indices_of ports
   pub peers : peers_of r.datagrams.peers.items ≡ site_peers (datagram_ports ports)
@@ -84,6 +85,9 @@ pub record ArePortsBound {gd : OfDevice.Ghosts (SourceFilter UdpSockets)} {ge : 
   pub fresh : udp_events r.datagrams.device.device.sockets.items ≡ map (λ p. []) (datagram_ports ports)
   pub ethernet_fresh : ethernet_events r.ethernet.sockets.ethernet.items ≡ map (λ p. []) (ethernet_ports ports)
   pub ipxnet_fresh : server_events r.servers.sockets.sockets.items ≡ map (λ p. []) (ipxnet_ports ports)
+  pub marks : r.datagrams.device.device.marks ≡ map (λ p. true) (datagram_ports ports)
+  pub ethernet_marks : r.ethernet.sockets.marks ≡ map (λ p. true) (ethernet_ports ports)
+  pub ipxnet_marks : r.servers.sockets.marks ≡ map (λ p. true) (ipxnet_ports ports)
 
 -- the ports for source checks: which of them are Ethernet ports
 abbrev pub is_ethernet : PortConfig → Bool

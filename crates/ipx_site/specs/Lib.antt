@@ -21,6 +21,8 @@ pub mod SiteMarks
 pub mod RepeatLog
 pub mod ClientLog
 pub mod KnownFile
+pub mod KnownNow
+pub mod WorkRefusals
 pub mod RouterWork
 pub mod NewRouters
 pub mod RoutingRuns

@@ -1,5 +1,5 @@
 -- What a router counts itself, and what its metrics contain. Defined by this project.
-use Rattle.std.specs.Prelude.{◌≡◌, ◌≤◌, ℕ, ◌+◌, ◌/◌, List, Option, Some, None, length, slice_get}
+use Rattle.std.specs.Prelude.{◌≡◌, ℕ, ◌+◌, ◌/◌, Bool, true, false, List, Option, Some, None, Result, Ok, Err, length, slice_get}
 use Rattle.ipx_carrier.specs.Counting.{counted, raised}
 use Rattle.ipx_carrier.specs.Mapping.{ip_at}
 use Rattle.ipx_carrier.specs.OutcomeCounters.{outcomes_in}
@@ -7,6 +7,7 @@ use Rattle.ipx_carrier.specs.declared.fault.RunFault.{RunFault}
 use Rattle.ipx_carrier.specs.declared.fault.RunFault.TheVariants.{Device, OutOfMemory}
 use Rattle.ipx_rate_limits.specs.declared.querier.Querier.{Querier}
 use Rattle.ipx_wire.specs.declared.address.Node.{Node}
+use Rattle.ipx_site.specs.IpxnetTotals.{IsOfLastFlood}
 use Rattle.ipx_site.specs.SiteCore.{SiteCore}
 use Rattle.ipx_site.specs.declared.metrics.Metrics.{Metrics}
 use Rattle.ipx_site.specs.declared.router_counts.RouterCounts.{RouterCounts}
@@ -22,6 +23,9 @@ use Rattle.ipx_sockets.specs.declared.sockets.UdpSockets.{UdpSockets}
 use Rattle.ipx_site.specs.PortsView.{SitePortsRun}
 use Rattle.ipx_carrier.specs.declared.report.Batch.{Batch}
 use Rattle.ipx_site.specs.declared.route_change_log.RouteChangeLog.{RouteChangeLog}
+use Rattle.ipx_site.specs.declared.written_files.WriteFault.{WriteFault}
+use Rattle.ipx_site.specs.declared.written_files.WriteFault.TheVariants as Faults
+use Rattle.ipx_site.specs.declared.written_files.WrittenFile.{WrittenFile}
 
 -- nothing has been counted
 abbrev pub no_counts : RouterCounts
@@ -41,14 +45,19 @@ with_fault (Some OutOfMemory) t = with_memory_fault t
 abbrev pub with_batch : Batch → RouterCounts → RouterCounts
 with_batch b t = with_fault b.fault (record t { unmapped = counted (t.unmapped + b.unmapped) })
 
--- the work beside a batch counts only refusals of memory and faults of files
-abbrev pub AddsFaultsOfWork : RouterCounts → RouterCounts → Type 0
-AddsFaultsOfWork old new = (new.unmapped ≡ old.unmapped) × (new.device_faults ≡ old.device_faults)
-    × (old.memory_faults ≤ new.memory_faults) × (old.file_faults ≤ new.file_faults)
+-- memory is counted if it was refused
+abbrev pub with_refusal : Bool → RouterCounts → RouterCounts
+with_refusal true t = with_memory_fault t
+with_refusal false t = t
 
--- a round counts what its work adds, and then its batch
-abbrev pub CountsRound : Batch → RouterCounts → RouterCounts → Type 0
-CountsRound b old new = (worked : RouterCounts) × AddsFaultsOfWork old worked × (new ≡ with_batch b worked)
+-- a file is counted if it was not written: as memory that was refused, or as a fault of this file
+abbrev pub with_file : WrittenFile → Result (Unit {0}) WriteFault → RouterCounts → RouterCounts
+with_file file (Ok done) t = t
+with_file file (Err Faults.OutOfMemory) t = with_memory_fault t
+with_file file (Err (Faults.File error)) t = record t {
+  file_faults = raised t.file_faults;
+  last_file_fault = Some (record { file = file; error = error });
+}
 
 -- the IP address of a node at a port. Only at an RFC 1234 port is it in the node: that of a station, or of a
 -- player, may begin with two zero bytes too
@@ -80,6 +89,7 @@ pub record AreMetrics {gd : OfDevice.Ghosts (SourceFilter UdpSockets)} {ge : OfS
   pub last_refused : f.last_refused ≡ ports.datagrams.device.last_refused
   pub frame_unknown_last : f.frame_last_unknown ≡ ports.ethernet.sockets.last_unknown
   pub ipxnet_unknown_last : f.ipxnet_unknown_senders.last ≡ ports.servers.sockets.last_unknown
+  pub ipxnet_last_limited : IsOfLastFlood ports.servers.servers.items f.ipxnet_last_limited
   pub sent_out : f.sent ≡ ports.datagrams.device.device.sent
   pub unmapped : f.unmapped ≡ totals.unmapped
   pub last_not_sent : f.last_not_sent ≡ ports.datagrams.device.device.last_not_sent

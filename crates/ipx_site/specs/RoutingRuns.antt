@@ -20,9 +20,9 @@ use Rattle.ipx_rate_limits.specs.PortLimits.{limits_of}
 use Rattle.ipx_site.specs.DropLog.{no_drops_logged}
 use Rattle.ipx_site.specs.NewRouters.{HasFilteredNothing, HasLoggedNobody, HasSeenNothing, IsUncounted}
 use Rattle.ipx_site.specs.PortsView.{ways_in}
-use Rattle.ipx_site.specs.RouterMetrics.{CountsRound, no_counts}
+use Rattle.ipx_site.specs.RouterMetrics.{no_counts}
 use Rattle.ipx_site.specs.RouterRounds.{IsRound, SleepsAfter}
-use Rattle.ipx_site.specs.RouterWork.{WorksInRound}
+use Rattle.ipx_site.specs.RouterWork.{WorksInRound, notes_of}
 use Rattle.ipx_config.specs.Site.{IsSiteText}
 use Rattle.ipx_site.specs.RouterMarks.{AreIndicesDistinct}
 use Rattle.ipx_site.specs.SiteMarks.{AfterMarks, marks_in, port_fds}
@@ -92,7 +92,8 @@ pub record StartsBy {R : Type 0} (site : RouterConfig) (first : RunningRouter R)
 -- one round, which begins with the pings that are due, followed by one wait, as long as there is nothing to do.
 -- If the wait does not fail, the ports are marked of which the system reported an event in it, and no others. Marks of before stay,
 -- and nothing else changes at the ports after the turns. The ways of packets, the port indices and the accepted senders are unchanged.
--- The totals count the batch of the round. Before its turns the router noted what was due as logged and written
+-- Before its turns the router noted what was due as logged and written. Its totals are those of before, with just what
+-- was refused to this work. Then what the batch of the round did not send is added, and the fault that ended it
 pub record TakesRound {R : Type 0} (old new : RunningRouter R) : Type 0 where
   pub between : SteadyClock R
   pub batch : Batch
@@ -106,8 +107,7 @@ pub record TakesRound {R : Type 0} (old new : RunningRouter R) : Type 0 where
       × (new.ready.failed ≡ false → AreMarked (numbers_come new.ready) (marks_in ended) (marks_in new.ports)))
       new.ports
   pub waits : WaitsOnce time old.ready new.ready
-  pub totals : CountsRound batch old.totals new.totals
-  pub work : WorksInRound old.ports old.core new.ports.ethernet.moment old.asked new.asked batch old.totals new.totals old.warnings new.warnings old.drops new.drops old.written new.written
+  pub work : WorksInRound old.ports old.core new.ports.ethernet.moment old.asked new.asked batch (notes_of old) (notes_of new)
   pub moments : new.ports.servers.moment ≡ new.ports.ethernet.moment
   pub transmissions : ways_in new.ports ≡ ways_in old.ports
   pub peers : peers_of new.ports.datagrams.peers.items ≡ peers_of old.ports.datagrams.peers.items

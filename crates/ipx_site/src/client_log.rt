@@ -1,7 +1,7 @@
 //! Logs the clients that connect to a router's ipxnet ports, those that time out, and the IP
 //! addresses from which none does.
 
-ghost use Rattle.std.specs.Prelude.{◌≡◌, ◌≤◌, ◌<◌, ◌↔◌, ◌+◌, ◌^◌, ◌++◌, [], ℕ, IfOk, None, OnErr, OnOk, Some, length, replicate};
+ghost use Rattle.std.specs.Prelude.{◌≡◌, ◌≤◌, ◌<◌, ◌↔◌, ◌+◌, ◌^◌, ◌++◌, [], ℕ, IfOk, None, Ok, OnErr, OnOk, Some, length, replicate};
 ghost use Rattle.ipx_site.specs.ClientLog.{IsClientLookDue, all_clients, clients_come, clients_gone, clients_logged, clients_without};
 ghost use Rattle.ipx_site.specs.ClientLog.{client_key, has_client_key, is_listed_client, max_client_lines, port_clients, port_index_clients};
 ghost use Rattle.ipx_site.specs.RepeatLog.{repeats_of_ports};
@@ -280,7 +280,7 @@ impl ClientLog {
         ports: &UdpRouterPorts,
         now: u64,
     ) -> Result<(), AllocError>
-        ensures early { (HasPassed 1000 self.old.looked now → ⊥) → self.new ≡ self.old }
+        ensures early { (HasPassed 1000 self.old.looked now → ⊥) → (result ≡ Ok tt) × (self.new ≡ self.old) }
         ensures looked { HasPassed 1000 self.old.looked now → self.new.looked ≡ Some now }
         ensures logged { HasPassed 1000 self.old.looked now → OnOk result (self.new.logged.items
             ≡ clients_logged self.old.logged.items

@@ -1,21 +1,22 @@
 //! Writing the file of a router's secret and of its ipxnet clients while it runs.
 
-ghost use Rattle.std.specs.Prelude.{◌≡◌, ◌≤◌, IfOk, IfSome, IsPermutation, List, None, false, length, map, string_bytes, true};
+ghost use Rattle.std.specs.Prelude.{◌≡◌, ◌≤◌, ◌↔◌, ◌⊎◌, IfErr, IfOk, IfSome, IsPermutation, IsTrue, List, None, Ok, OnErr, OnOk, Some, false, length, map, string_bytes, true};
 ghost use Rattle.std.specs.List.{flat_map, list_all};
-ghost use Rattle.ipx_site.specs.ClientsFile.{AreHeardLast, IsLatestFirst, have_same_clients, heard_of, is_listed, written_at_start};
+ghost use Rattle.ipx_site.specs.ClientsFile.{AreHeardLast, IsClientsFileDue, IsLatestFirst, IsListKept, IsRefusedFile, have_same_clients, heard_of, is_listed, written_at_start};
+ghost use Rattle.ipx_sockets.specs.Moments.{HasPassed};
 ghost use Rattle.ipx_site.specs.Secrets.{kept_text};
 ghost use Rattle.ipx_table_dump.specs.ClientsText.{max_client_places};
 ghost use Rattle.ipx_table_dump.specs.declared.client_places.ClientPlace.{ClientPlace};
 
 use crate::router_ports::UdpRouterPorts;
 use crate::secret_file::{SavedClients, secret_to_text, write_private};
+use crate::written_files::WriteFault;
 use ipx_sockets::is_over;
 use ipx_table_dump::{ClientPlace, MAX_CLIENT_PLACES};
 use ipx_wire::Network;
 use ipxnet_server::{Client, IpxnetServer, Secret};
 use std::alloc::{AllocError, Global};
 use std::cmp::Reverse;
-use std::io;
 use std::rt::Files;
 
 /// How often the clients are compared with those that the file lists, in milliseconds.
@@ -23,13 +24,6 @@ const LOOK_PERIOD: u64 = 1000;
 
 /// How much later than the last time the file is written again at the earliest, in milliseconds.
 const WRITE_PERIOD: u64 = 60_000;
-
-/// Why the file was not written.
-pub enum ClientsFileFault {
-    OutOfMemory,
-    /// The system refused it.
-    File(io::Error),
-}
 
 /// A client, and when it was heard last.
 #[derive(Clone, Copy)]
@@ -170,7 +164,9 @@ impl ClientsFile {
     }
 
     /// Whether it is time to compare the clients with the file, at `now`, in milliseconds.
-    fn is_time(&self, now: u64) -> bool {
+    fn is_time(&self, now: u64) -> bool
+        ensures { IsTrue result ↔ (HasPassed 1000 self.now.looked now × HasPassed 60000 self.now.written now) }
+    {
         is_over(self.looked, LOOK_PERIOD, now) && is_over(self.written, WRITE_PERIOD, now)
     }
 
@@ -205,16 +201,29 @@ impl ClientsFile {
         alloc: Global,
         ports: &UdpRouterPorts,
         now: u64,
-    ) -> Result<(), ClientsFileFault> {
+    ) -> Result<(), WriteFault>
+        // If it has no file, or it is not time, nothing changes.
+        ensures early { (IsClientsFileDue self.old now → ⊥) → (result ≡ Ok tt) × (self.new ≡ self.old) }
+        ensures looked { IsClientsFileDue self.old now → self.new.looked ≡ Some now }
+        // If it is refused, it lists the clients that it did, and counts as written when it did, or
+        // now. It is then not tried for a minute if the system refused it.
+        ensures refused { OnErr result ((self.new.listed ≡ self.old.listed)
+            × ((self.new.written ≡ self.old.written) ⊎ (self.new.written ≡ Some now))) }
+        ensures failed { IfErr result (λ e. IsRefusedFile e → self.new.written ≡ Some now) }
+        // If it is time and nothing is refused, it lists those that were heard last. It was written
+        // now exactly if it listed others.
+        ensures kept { IsClientsFileDue self.old now
+            → OnOk result (IsListKept ports.now.servers.servers.items now self.old self.new) }
+        ensures rest { (self.new.path ≡ self.old.path) × (self.new.secret ≡ self.old.secret) }
+    {
         if self.path.is_none() || !self.is_time(now) {
             return Ok(());
         }
         self.looked = Some(now);
-        let Ok(list) = self.new_list(alloc, ports.servers().servers()) else {
-            return Err(ClientsFileFault::OutOfMemory);
-        };
-        let Some(list) = list else {
-            return Ok(());
+        let list = match self.new_list(alloc, ports.servers().servers()) {
+            Ok(Some(list)) => list,
+            Ok(None) => return Ok(()),
+            Err(_) => return Err(WriteFault::OutOfMemory),
         };
         self.written = Some(now);
         let Some(path) = &self.path else {
@@ -222,8 +231,8 @@ impl ClientsFile {
         };
         match write_private(rt, alloc, path, list.text.as_str()) {
             Ok(Ok(())) => {}
-            Ok(Err(error)) => return Err(ClientsFileFault::File(error)),
-            Err(_) => return Err(ClientsFileFault::OutOfMemory),
+            Ok(Err(error)) => return Err(WriteFault::File(error)),
+            Err(_) => return Err(WriteFault::OutOfMemory),
         }
         self.listed = list.clients;
         Ok(())

@@ -1,6 +1,6 @@
 //! The Ethernet ports of a router: their sockets and their switches.
 
-ghost use Rattle.std.specs.Prelude.{◌≡◌, ◌++◌, ◌∷◌, [], IfOk, OnOk, map};
+ghost use Rattle.std.specs.Prelude.{◌≡◌, ◌++◌, ◌∷◌, [], IfOk, OnOk, map, true};
 ghost use Rattle.ipx_config.specs.PortLists.{end_places, ethernet_places, ethernet_ports};
 ghost use Rattle.ipx_site.specs.KindPorts.{switch_of, ethernet_port_of};
 ghost use Rattle.ipx_carrier.specs.Traces.{v4_at};
@@ -54,6 +54,7 @@ fn bind_ethernet_port<R: Net>(
         ≡ remote_places sockets.old.ethernet.items ++ port.now.ends.items ∷ []) }
     ensures fresh { OnOk result (ethernet_events sockets.new.ethernet.items
         ≡ ethernet_events sockets.old.ethernet.items ++ [] ∷ []) }
+    ensures marks { OnOk result (sockets.new.marks ≡ sockets.old.marks ++ true ∷ []) }
 {
     let Ok(ends) = Vec::from_slice(alloc, &port.ends) else {
         return Err(BindFault::OutOfMemory);
@@ -82,6 +83,7 @@ fn bind_ethernet_ports<R: Net>(
         remote_places s.ethernet.items ≡ end_places (ethernet_ports ports.now)) }
     ensures fresh { IfOk result (λ s.
         ethernet_events s.ethernet.items ≡ map (λ p. []) (ethernet_ports ports.now)) }
+    ensures marks { IfOk result (λ s. s.marks ≡ map (λ p. true) (ethernet_ports ports.now)) }
 {
     let mut sockets = EthernetSockets::new(alloc);
     for (place, port) in ports.iter().enumerate() {
@@ -106,6 +108,8 @@ pub fn ethernet_ports_of<R: Net>(
     // No socket was asked anything yet.
     ensures fresh { IfOk result (λ w.
         ethernet_events w.sockets.ethernet.items ≡ map (λ p. []) (ethernet_ports ports.now)) }
+    // Each is marked, so that the first turn asks it.
+    ensures marks { IfOk result (λ w. w.sockets.marks ≡ map (λ p. true) (ethernet_ports ports.now)) }
 {
     let Ok(switches) = switches_of(alloc, ports) else {
         return Err(BindFault::OutOfMemory);

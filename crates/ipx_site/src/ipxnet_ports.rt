@@ -1,6 +1,6 @@
 //! The ipxnet ports of a router: their sockets and their servers.
 
-ghost use Rattle.std.specs.Prelude.{◌≡◌, ◌++◌, ◌∷◌, [], List, Option, IfOk, OnOk, map};
+ghost use Rattle.std.specs.Prelude.{◌≡◌, ◌++◌, ◌∷◌, [], List, Option, IfOk, OnOk, map, true};
 ghost use Rattle.ipx_ipxnet_ports.specs.ServerAddresses.{bound_places, prefixes_heard, server_events};
 ghost use Rattle.ipx_site.specs.KindPorts.{client_port_of, server_of_port};
 ghost use Rattle.ipx_site.specs.KnownPlaces.{is_known_here, places_known};
@@ -103,6 +103,7 @@ fn bind_server<R: Net + Log>(
         ≡ map prefixes_heard sockets.old.sockets.items ++ prefixes ∷ [])) }
     ensures fresh { OnOk result (server_events sockets.new.sockets.items
         ≡ server_events sockets.old.sockets.items ++ [] ∷ []) }
+    ensures marks { OnOk result (sockets.new.marks ≡ sockets.old.marks ++ true ∷ []) }
 {
     let Ok(allow) = registering(rt, alloc, number, port) else {
         return Err(BindFault::OutOfMemory);
@@ -131,6 +132,7 @@ fn bind_servers<R: Net + Log>(
         MayRegisterAt (ipxnet_ports ports.now) (map prefixes_heard s.sockets.items)) }
     ensures fresh { IfOk result (λ s.
         server_events s.sockets.items ≡ map (λ p. []) (ipxnet_ports ports.now)) }
+    ensures marks { IfOk result (λ s. s.marks ≡ map (λ p. true) (ipxnet_ports ports.now)) }
 {
     let mut sockets = ServerSockets::new(alloc);
     for (place, port) in ports.iter().enumerate() {
@@ -158,6 +160,8 @@ pub fn servers_of<R: Net + Log>(
     // No socket was asked anything yet.
     ensures fresh { IfOk result (λ l.
         server_events l.sockets.sockets.items ≡ map (λ p. []) (ipxnet_ports ports.now)) }
+    // Each is marked, so that the first turn asks it.
+    ensures marks { IfOk result (λ l. l.sockets.marks ≡ map (λ p. true) (ipxnet_ports ports.now)) }
 {
     let Ok(servers) = servers_of_ports(alloc, kept, ports) else {
         return Err(BindFault::OutOfMemory);

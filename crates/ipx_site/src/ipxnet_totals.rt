@@ -1,9 +1,10 @@
 //! Totals over the servers of a router's ports for ipxnet.
 
 ghost use Rattle.std.specs.Prelude.{◌≡◌};
-ghost use Rattle.ipx_site.specs.IpxnetTotals.{IsLastFlood, busy_in, client_count_in, full_in, full_of_address_in, later_flood, rate_limited_in};
+ghost use Rattle.ipx_site.specs.IpxnetTotals.{IsLastFlood, busy_in, client_count_in, flood_from, full_in, full_of_address_in, later_flood, rate_limited_in};
 
 use ipxnet_server::{IpxnetServer, LimitedFlood};
+use std::net::SocketAddrV4;
 
 /// The number of clients. Saturates at the greatest u64.
 pub fn client_count(servers: &[IpxnetServer]) -> u64
@@ -73,6 +74,16 @@ pub fn last_limited(servers: &[IpxnetServer]) -> Option<LimitedFlood>
         last = later(last, server.last_limited());
     }
     last
+}
+
+/// The IP address and UDP port of the player of a flood, if there was one.
+pub fn flood_from(flood: Option<LimitedFlood>) -> Option<SocketAddrV4>
+    ensures { result ≡ flood_from flood }
+{
+    match flood {
+        Some(flood) => Some(flood.from),
+        None => None,
+    }
 }
 
 /// The later of two, if there is any; the second one if they are of one time.

@@ -1,9 +1,12 @@
 //! Logs the networks and services of others that a router learns and loses.
 
-ghost use Rattle.std.specs.Prelude.{◌≡◌, length};
+ghost use Rattle.std.specs.Prelude.{◌≡◌, IfOk, OnErr, OnOk, length, map};
+ghost use Rattle.ipx_tables.specs.Content.{content};
+ghost use Rattle.ipx_tables.specs.Listing.{IsListing};
+ghost use Rattle.ipx_site.specs.KnownNow.{AreNetworksKnown, AreServicesKnown, LeavesKnown};
 ghost use Rattle.ipx_site.specs.NewRouters.{HasSeenNothing};
 
-use ipx_config::Escaped;
+use crate::service_name::ServiceName;
 use ipx_router::Router;
 use ipx_sockets::Noun;
 use ipx_tables::{Metric, Offers, RouteMetric, ServiceKey, ServiceMetric, Source};
@@ -69,7 +72,7 @@ impl Told for ServiceKey {
 
     fn tell_known<R: Log>(&self, rt: &R, source: Source, offered: ServiceMetric) {
         let kind = self.kind;
-        let name = Escaped(&self.name);
+        let name = ServiceName(&self.name);
         let network = offered.at.network;
         let node = offered.at.node;
         let socket = offered.at.socket;
@@ -81,7 +84,7 @@ impl Told for ServiceKey {
 
     fn tell_lost<R: Log>(&self, rt: &R) {
         let kind = self.kind;
-        let name = Escaped(&self.name);
+        let name = ServiceName(&self.name);
         info!(rt; target: "ipx", "service lost: {kind:04x} {name}");
     }
 }
@@ -123,21 +126,73 @@ fn tell_gone<R: Log, K: Told>(rt: &R, known: &[K], held: &[(K, Source, K::Offere
     tell_rest(rt, K::NOUN, "lost", count);
 }
 
-/// The keys that a table has now. It logs those that are new and those that are gone.
-fn look_at<R: Log, K: Told>(
+/// The keys of a table that have a valid offer now, each with its best one.
+fn held_in<K: Ord + Copy, M: Metric + Copy>(
+    alloc: Global,
+    table: &Offers<K, M>,
+    now: u64,
+) -> Result<Vec<(K, Source, M)>, OutOfMemory>
+    ensures { IfOk result
+        (λ v. IsListing K.cmp M.before (content K.cmp table.now.offers) now v.items) }
+{
+    match table.list(alloc, now) {
+        Ok(held) => Ok(held),
+        Err(_) => Err(OutOfMemory),
+    }
+}
+
+/// The key of one of these.
+fn key_in<K: Copy, M: Copy>(item: &(K, Source, M)) -> K
+    ensures { result ≡ item.now.0 }
+{
+    item.0
+}
+
+/// The keys of these, in order.
+fn keys_of<K: Copy, M: Copy>(alloc: Global, held: &[(K, Source, M)]) -> Result<Vec<K>, OutOfMemory>
+    ensures { IfOk result (λ v. v.items ≡ map (λ item. item.0) held.now) }
+{
+    let keys = held
+        .iter()
+        .map(|item| key_in(item))
+        .collect::<Vec<K>>(alloc)?;
+    Ok(keys)
+}
+
+/// The networks that a router knows now, in order. It logs those that are new and those that are
+/// gone.
+fn look_at_networks<R: Log>(
     rt: &R,
     alloc: Global,
-    known: &[K],
-    table: &Offers<K, K::Offered>,
+    known: &[Network],
+    router: &Router,
     now: u64,
-) -> Result<Vec<K>, OutOfMemory> {
-    let Ok(held) = table.list(alloc, now) else {
-        return Err(OutOfMemory);
-    };
-    let keys = held.iter().map(|item| item.0).collect::<Vec<K>>(alloc)?;
+) -> Result<Vec<Network>, OutOfMemory>
+    ensures { IfOk result (λ v. AreNetworksKnown router.now now v.items) }
+{
+    let held = held_in(alloc, router.routes(), now)?;
+    let networks = keys_of(alloc, &held)?;
     tell_new(rt, known, &held);
     tell_gone(rt, known, &held);
-    Ok(keys)
+    Ok(networks)
+}
+
+/// The services that a router knows now, in order. It logs those that are new and those that are
+/// gone.
+fn look_at_services<R: Log>(
+    rt: &R,
+    alloc: Global,
+    known: &[ServiceKey],
+    router: &Router,
+    now: u64,
+) -> Result<Vec<ServiceKey>, OutOfMemory>
+    ensures { IfOk result (λ v. AreServicesKnown router.now now v.items) }
+{
+    let held = held_in(alloc, router.services(), now)?;
+    let services = keys_of(alloc, &held)?;
+    tell_new(rt, known, &held);
+    tell_gone(rt, known, &held);
+    Ok(services)
 }
 
 impl RouteChangeLog {
@@ -173,9 +228,15 @@ impl RouteChangeLog {
         alloc: Global,
         router: &Router,
         now: u64,
-    ) -> Result<(), OutOfMemory> {
-        self.networks = look_at(rt, alloc, &self.networks, router.routes(), now)?;
-        self.services = look_at(rt, alloc, &self.services, router.services(), now)?;
+    ) -> Result<(), OutOfMemory>
+        ensures networks { OnOk result (AreNetworksKnown router.now now self.new.networks.items) }
+        ensures services { OnOk result (AreServicesKnown router.now now self.new.services.items) }
+        // If out of memory, the services stay, so that what is new or lost is logged later. The
+        // networks stay, or are those known now.
+        ensures refused { OnErr result (LeavesKnown router.now now self.old self.new) }
+    {
+        self.networks = look_at_networks(rt, alloc, &self.networks, router, now)?;
+        self.services = look_at_services(rt, alloc, &self.services, router, now)?;
         Ok(())
     }
 }

@@ -4,14 +4,15 @@ ghost use Rattle.std.specs.Prelude.{◌≡◌, ◌≤◌, Some};
 ghost use Rattle.ipx_carrier.specs.Counting.{counted, raised};
 ghost use Rattle.ipx_carrier.specs.OutcomeCounters.{outcomes_in};
 ghost use Rattle.ipx_site.specs.IdleTime.{happened, happened_in, lost_in};
-ghost use Rattle.ipx_site.specs.RouterMetrics.{AreMetrics, no_counts, node_ip, querier_ip, with_batch, with_memory_fault};
+ghost use Rattle.ipx_site.specs.IpxnetTotals.{IsOfLastFlood};
+ghost use Rattle.ipx_site.specs.RouterMetrics.{AreMetrics, no_counts, node_ip, querier_ip, with_batch, with_file, with_memory_fault, with_refusal};
 
 use crate::ethernet_totals::{in_other_encapsulations, unframed};
-use crate::ipxnet_totals::{busy, full, full_of_address, last_limited, rate_limited};
+use crate::ipxnet_totals::{busy, flood_from, full, full_of_address, last_limited, rate_limited};
 use crate::metrics::Metrics;
 use crate::route_change_log::RouteChangeLog;
 use crate::router_ports::{PortIndex, UdpRouterPorts};
-use crate::written_files::FileFault;
+use crate::written_files::{FileFault, WriteFault, WrittenFile};
 use ipx_carrier::{Batch, OutcomeCounters, RunFault, ip_of, saturating_increment};
 use ipx_ethernet_ports::EndSockets;
 use ipx_ipxnet_ports::PlaceSockets;
@@ -21,6 +22,7 @@ use ipx_sockets::DropCount;
 use ipx_source_checks::SourceChecked;
 use ipx_static::WithStatics;
 use ipx_wire::Node;
+use std::net::SocketAddrV4;
 
 /// The counters that a running router keeps itself. Each saturates at the greatest u64.
 #[derive(Clone, Copy)]
@@ -85,6 +87,15 @@ fn ipxnet_unknown_senders(ports: &UdpRouterPorts) -> DropCount
     }
 }
 
+/// The IP address and UDP port of the player whose broadcast was dropped last because the player had
+/// sent too many.
+fn last_limited_from(ports: &UdpRouterPorts) -> Option<SocketAddrV4>
+    ensures { IsOfLastFlood ports.now.servers.servers.items result }
+{
+    let flood = last_limited(ports.servers().servers());
+    flood_from(flood)
+}
+
 impl RouterCounts {
     pub fn new() -> RouterCounts
         ensures { result ≡ no_counts }
@@ -128,6 +139,26 @@ impl RouterCounts {
         self.last_file_fault = Some(fault);
     }
 
+    /// Counts memory that was refused, if it was.
+    pub fn count_refusal(&mut self, refused: bool)
+        ensures { self.new ≡ with_refusal refused self.old }
+    {
+        if refused {
+            self.count_out_of_memory();
+        }
+    }
+
+    /// Counts why a file was not written, if it was not.
+    pub fn count_file(&mut self, file: WrittenFile, done: Result<(), WriteFault>)
+        ensures { self.new ≡ with_file file done self.old }
+    {
+        match done {
+            Ok(()) => {}
+            Err(WriteFault::OutOfMemory) => self.count_out_of_memory(),
+            Err(WriteFault::File(error)) => self.fail_file(FileFault { file, error }),
+        }
+    }
+
     /// All metrics of a router, at `now`, in milliseconds since its start.
     pub fn metrics(
         &self,
@@ -163,7 +194,7 @@ impl RouterCounts {
             ipxnet_full: full(servers),
             ipxnet_full_of_address: full_of_address(servers),
             ipxnet_rate_limited: rate_limited(servers),
-            ipxnet_last_limited: last_limited(servers).map(|flood| flood.from),
+            ipxnet_last_limited: last_limited_from(ports),
             ipxnet_busy: busy(servers),
             unframed: unframed(switches),
             other_encapsulation: in_other_encapsulations(switches),

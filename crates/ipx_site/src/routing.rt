@@ -1,6 +1,6 @@
 //! The command `route`.
 
-ghost use Rattle.std.specs.Prelude.{◌≡◌, ◌≤◌, ◌⊎◌, ◌+◌, [], false, None, All, IfErr, IfOk, OnErr, OnOk, is_ok, if◌then◌else◌, length, map};
+ghost use Rattle.std.specs.Prelude.{◌≡◌, ◌≤◌, ◌⊎◌, ◌+◌, [], false, true, None, All, IfErr, IfOk, OnErr, OnOk, is_ok, if◌then◌else◌, length, map};
 ghost use Rattle.ipx_router.specs.NewRouter.{IsOwnNetwork};
 ghost use Rattle.ipx_router.specs.Ports.{IsPortNumber};
 ghost use Rattle.ipx_static.specs.StaticAdvertisements.{AreStaticAdvertisements};
@@ -331,6 +331,7 @@ fn datagrams_of<R: Net>(
         ≡ datagram_places (datagram_ports ports.now)) }
     ensures fresh { IfOk result (λ d.
         udp_events d.device.device.sockets.items ≡ map (λ p. []) (datagram_ports ports.now)) }
+    ensures marks { IfOk result (λ d. d.device.device.marks ≡ map (λ p. true) (datagram_ports ports.now)) }
     ensures unfiltered { IfOk result (λ d. HasFilteredNothing d.device) }
 {
     let access_lists = access_lists_of(alloc, ports)?;

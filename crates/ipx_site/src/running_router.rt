@@ -1,11 +1,11 @@
 //! A router with its sockets, and its work besides the turns of its run.
 
-ghost use Rattle.std.specs.Prelude.{◌≡◌, ◌↔◌, ◌⊎◌, ◌<◌, ◌^◌, ℕ, Bool, List, IfOk, OnOk, Some, is_err, is_ok, length, map, replicate, string_bytes, None};
+ghost use Rattle.std.specs.Prelude.{◌≡◌, ◌↔◌, ◌⊎◌, ◌<◌, ◌^◌, ℕ, Bool, List, IfOk, IsTrue, OnErr, OnOk, Some, is_err, is_ok, is_some, length, map, replicate, string_bytes, None};
 ghost use Rattle.ipx_carrier.specs.ReadySet.{AreMarked, is_any_marked};
 ghost use Rattle.ipx_carrier.specs.Turns.{peers_of};
 ghost use Rattle.ipx_site.specs.ClientLog.{IsClientLookDue};
 ghost use Rattle.ipx_site.specs.DropLog.{AreDropsLogged, no_drops_logged};
-ghost use Rattle.ipx_sockets.specs.Moments.{IsTimeUntilDue, AreLoggedIfDue, IsReached, never_logged};
+ghost use Rattle.ipx_sockets.specs.Moments.{IsTimeUntilDue, AreLoggedIfDue, HasPassed, IsReached, never_logged};
 ghost use Rattle.ipx_site.specs.IdleTime.{IsDue, IsLineDue, IsToSend, deadlines, counts_to_log, happened, happened_in, look_after};
 ghost use Rattle.ipx_site.specs.KnownFile.{TellsKnown};
 ghost use Rattle.ipx_site.specs.MetricsFile.{IsMetricsFile};
@@ -13,14 +13,14 @@ ghost use Rattle.ipx_site.specs.NewRouters.{HasLoggedNobody, HasSeenNothing};
 ghost use Rattle.ipx_sockets.specs.Polling.{WaitsOnce, numbers_come};
 ghost use Rattle.ipx_sockets.specs.AccessLists.{access_by};
 ghost use Rattle.ipx_site.specs.PortsView.{ways_in};
-ghost use Rattle.ipx_site.specs.RouterMetrics.{AddsFaultsOfWork, AreMetrics, CountsRound, no_counts};
+ghost use Rattle.ipx_site.specs.RouterMetrics.{AreMetrics, no_counts};
 ghost use Rattle.ipx_site.specs.RouterRounds.{AsksAgain, IsRound, SleepsAfter};
-ghost use Rattle.ipx_site.specs.RouterWork.{IsDoneIfDue, WorksInRound};
+ghost use Rattle.ipx_site.specs.WorkRefusals.{CountsFiles, DoesUnless, IsDoneIfDue, LooksAtClients, LooksAtKnown, Refusals, with_refusals};
 ghost use Rattle.ipx_site.specs.SiteMarks.{AfterMarks, marks_in};
 ghost use Rattle.ipx_sockets.specs.Steady.{NeverGoesBack, StopsThere};
 
 use crate::client_log::ClientLog;
-use crate::clients_file::{ClientsFile, ClientsFileFault};
+use crate::clients_file::ClientsFile;
 use crate::discovery::discovery_retry;
 use crate::drop_log::DropLog;
 use crate::frame_metrics::{ethernet_metrics, tell_encapsulations};
@@ -33,7 +33,7 @@ use crate::route_change_log::RouteChangeLog;
 use crate::router_counts::RouterCounts;
 use crate::router_ports::UdpRouterPorts;
 use crate::warnings::Warnings;
-use crate::written_files::{FileFault, WrittenFile, write_whole};
+use crate::written_files::{WriteFault, WrittenFile, write_whole, written};
 use ipx_carrier::{Batch, Clock, run_batch};
 use ipx_metrics::MeteredRouter;
 use ipx_rate_limits::RateLimiter;
@@ -117,6 +117,8 @@ pub struct Parts<'a, R: SystemClock> {
 }
 
 impl<'a, R: SystemClock> RunningRouter<'a, R> {
+    ghost use Rattle.ipx_site.specs.RouterWork.{WorksInRound, notes_of};
+
     /// A router that begins to run. There must be a port index for each of its ports.
     pub(crate) fn new(alloc: Global, parts: Parts<'a, R>) -> RunningRouter<'a, R>
         requires { length parts.ports.port_indices.items ≡ length parts.core.core.core.core.router.ports }
@@ -204,10 +206,7 @@ impl<'a, R: SystemClock> RunningRouter<'a, R> {
         ensures ports { self.new.ports ≡ self.old.ports }
         ensures clock { self.new.clock ≡ self.old.clock }
         ensures ready { self.new.ready ≡ self.old.ready }
-        ensures totals { self.new.totals ≡ self.old.totals }
-        ensures warnings { self.new.warnings ≡ self.old.warnings }
-        ensures drops { self.new.drops ≡ self.old.drops }
-        ensures written { self.new.written ≡ self.old.written }
+        ensures notes { notes_of self.new ≡ notes_of self.old }
     {
         if let Some(moment) = discovery_retry(self.asked) {
             if now >= moment {
@@ -217,33 +216,43 @@ impl<'a, R: SystemClock> RunningRouter<'a, R> {
         }
     }
 
-    /// Logs clients that connected or are gone, and what is newly known or lost, if it is time.
-    fn look<L: Log>(&mut self, rt: &L, alloc: Global, now: u64)
+    /// Logs clients that connected or are gone, if it is time. It returns whether memory was refused.
+    fn look_at_clients<L: Log>(&mut self, rt: &L, alloc: Global, now: u64) -> bool
         ensures core { self.new.core ≡ self.old.core }
         ensures ports { self.new.ports ≡ self.old.ports }
         ensures clock { self.new.clock ≡ self.old.clock }
         ensures ready { self.new.ready ≡ self.old.ready }
-        ensures totals { AddsFaultsOfWork self.old.totals self.new.totals }
-        ensures warnings { self.new.warnings ≡ self.old.warnings }
-        ensures drops { self.new.drops ≡ self.old.drops }
-        ensures written { self.new.written ≡ self.old.written }
         ensures asked { self.new.asked ≡ self.old.asked }
+        ensures clients { LooksAtClients result self.old.ports now self.old.client_log
+            self.new.client_log }
+        ensures rest { notes_of self.new ≡ record (notes_of self.old) { client_log = self.new.client_log } }
     {
-        if self.client_log.tell(rt, alloc, &self.ports, now).is_err() {
-            self.totals.count_out_of_memory();
-        }
+        self.client_log.tell(rt, alloc, &self.ports, now).is_err()
+    }
+
+    /// Logs what is newly known or lost, if it is time. It returns whether memory was refused.
+    fn look<L: Log>(&mut self, rt: &L, alloc: Global, now: u64) -> bool
+        ensures core { self.new.core ≡ self.old.core }
+        ensures ports { self.new.ports ≡ self.old.ports }
+        ensures clock { self.new.clock ≡ self.old.clock }
+        ensures ready { self.new.ready ≡ self.old.ready }
+        ensures asked { self.new.asked ≡ self.old.asked }
+        ensures known { LooksAtKnown result self.old.core.core.core.core now self.old.looked
+            self.new.looked self.old.responses self.new.responses self.old.route_changes
+            self.new.route_changes }
+        ensures rest { notes_of self.new ≡ record (notes_of self.old) {
+          looked = self.new.looked;
+          responses = self.new.responses;
+          known = self.new.route_changes;
+        } }
+    {
         if !is_over(self.looked, self.look_period(), now) {
-            return;
+            return false;
         }
         self.looked = Some(now);
         self.responses = self.core.core().core().core().outcomes().heard;
-        if self
-            .route_changes
-            .look(rt, alloc, self.core.core().core().core().router(), now)
-            .is_err()
-        {
-            self.totals.count_out_of_memory();
-        }
+        let router = self.core.core().core().core().router();
+        self.route_changes.look(rt, alloc, router, now).is_err()
     }
 
     /// The text of its table file at `now`: what it knows.
@@ -254,80 +263,79 @@ impl<'a, R: SystemClock> RunningRouter<'a, R> {
     }
 
     /// Writes its table file, if it has one.
-    fn write_tables<F: Files>(&mut self, rt: &F, alloc: Global, now: u64)
-        ensures core { self.new.core ≡ self.old.core }
-        ensures ports { self.new.ports ≡ self.old.ports }
-        ensures clock { self.new.clock ≡ self.old.clock }
-        ensures ready { self.new.ready ≡ self.old.ready }
-        ensures totals { AddsFaultsOfWork self.old.totals self.new.totals }
-        ensures warnings { self.new.warnings ≡ self.old.warnings }
-        ensures drops { self.new.drops ≡ self.old.drops }
-        ensures written { self.new.written ≡ self.old.written }
-        ensures asked { self.new.asked ≡ self.old.asked }
+    fn write_tables<F: Files>(&self, rt: &F, alloc: Global, now: u64) -> Result<(), WriteFault>
+        ensures { OnErr result (IsTrue (is_some self.now.tables_file)) }
     {
         let Some(path) = &self.tables_file else {
-            return;
+            return Ok(());
         };
         let Ok(text) = self.tables_text(alloc, now) else {
-            self.totals.count_out_of_memory();
-            return;
+            return Err(WriteFault::OutOfMemory);
         };
-        if let Err(error) = write_whole(rt, alloc, path.as_str(), text.as_str()) {
-            let file = WrittenFile::Tables;
-            self.totals.fail_file(FileFault { file, error });
-        }
+        written(write_whole(rt, alloc, path.as_str(), text.as_str()))
     }
 
-    /// Writes the metrics file and the table file, if it is time and it has them.
-    fn write_metrics<F: Files>(&mut self, rt: &F, alloc: Global, now: u64)
+    /// Writes its metrics file, if it has one.
+    fn write_metrics<F: Files>(&self, rt: &F, alloc: Global, now: u64) -> Result<(), WriteFault>
+        ensures { OnErr result (IsTrue (is_some self.now.metrics_file)) }
+    {
+        let Some(path) = &self.metrics_file else {
+            return Ok(());
+        };
+        let Ok(text) = self.metrics_text(alloc, now) else {
+            return Err(WriteFault::OutOfMemory);
+        };
+        written(write_whole(rt, alloc, path.as_str(), text.as_str()))
+    }
+
+    /// Writes the table file and the metrics file, if it is time and it has them. The metrics tell
+    /// of the table file too.
+    fn write_files<F: Files>(&mut self, rt: &F, alloc: Global, now: u64)
         ensures core { self.new.core ≡ self.old.core }
         ensures ports { self.new.ports ≡ self.old.ports }
         ensures clock { self.new.clock ≡ self.old.clock }
         ensures ready { self.new.ready ≡ self.old.ready }
-        ensures totals { AddsFaultsOfWork self.old.totals self.new.totals }
-        ensures warnings { self.new.warnings ≡ self.old.warnings }
-        ensures drops { self.new.drops ≡ self.old.drops }
-        ensures written { IsDoneIfDue 10000 now self.old.written self.new.written }
         ensures asked { self.new.asked ≡ self.old.asked }
+        ensures totals { CountsFiles (is_some self.old.tables_file) (is_some self.old.metrics_file)
+            (HasPassed 10000 self.old.written now) self.old.totals self.new.totals }
+        ensures written { IsDoneIfDue 10000 now self.old.written self.new.written }
+        ensures rest { notes_of self.new ≡ record (notes_of self.old) {
+          totals = self.new.totals;
+          written = self.new.written;
+        } }
     {
         if !is_over(self.written, PERIOD, now) {
             return;
         }
         self.written = Some(now);
-        self.write_tables(rt, alloc, now);
-        let Some(path) = &self.metrics_file else {
-            return;
-        };
-        let Ok(text) = self.metrics_text(alloc, now) else {
-            self.totals.count_out_of_memory();
-            return;
-        };
-        if let Err(error) = write_whole(rt, alloc, path.as_str(), text.as_str()) {
-            let file = WrittenFile::Metrics;
-            self.totals.fail_file(FileFault { file, error });
-        }
+        let tables = self.write_tables(rt, alloc, now);
+        self.totals.count_file(WrittenFile::Tables, tables);
+        let metrics = self.write_metrics(rt, alloc, now);
+        self.totals.count_file(WrittenFile::Metrics, metrics);
     }
 
-    /// Writes the file that lists its clients, if it is time and it has one.
-    fn write_clients<F: Files>(&mut self, rt: &F, alloc: Global, now: u64)
+    /// Looks at its clients and at what it knows, and writes its files, if it is time. It counts what
+    /// was refused.
+    fn look_and_write<S: Log + Files>(&mut self, rt: &S, alloc: Global, now: u64)
         ensures core { self.new.core ≡ self.old.core }
         ensures ports { self.new.ports ≡ self.old.ports }
         ensures clock { self.new.clock ≡ self.old.clock }
         ensures ready { self.new.ready ≡ self.old.ready }
-        ensures totals { AddsFaultsOfWork self.old.totals self.new.totals }
+        ensures asked { self.new.asked ≡ self.old.asked }
+        // Each refusal is of something that was due, and is counted once.
+        ensures totals { (refused : Refusals) × (self.new.totals ≡ with_refusals refused self.old.totals)
+            × DoesUnless refused self.old.ports self.old.core now (notes_of self.old) (notes_of self.new) }
+        ensures written { IsDoneIfDue 10000 now self.old.written self.new.written }
         ensures warnings { self.new.warnings ≡ self.old.warnings }
         ensures drops { self.new.drops ≡ self.old.drops }
-        ensures written { self.new.written ≡ self.old.written }
-        ensures asked { self.new.asked ≡ self.old.asked }
     {
-        match self.clients_file.keep(rt, alloc, &self.ports, now) {
-            Ok(()) => {}
-            Err(ClientsFileFault::OutOfMemory) => self.totals.count_out_of_memory(),
-            Err(ClientsFileFault::File(error)) => {
-                let file = WrittenFile::Secret;
-                self.totals.fail_file(FileFault { file, error });
-            }
-        }
+        let clients = self.look_at_clients(rt, alloc, now);
+        self.totals.count_refusal(clients);
+        let known = self.look(rt, alloc, now);
+        self.totals.count_refusal(known);
+        self.write_files(rt, alloc, now);
+        let kept = self.clients_file.keep(rt, alloc, &self.ports, now);
+        self.totals.count_file(WrittenFile::Secret, kept);
     }
 
     /// Does the work besides the turns.
@@ -336,7 +344,9 @@ impl<'a, R: SystemClock> RunningRouter<'a, R> {
         ensures ports { self.new.ports ≡ self.old.ports }
         ensures clock { self.new.clock ≡ self.old.clock }
         ensures ready { self.new.ready ≡ self.old.ready }
-        ensures totals { AddsFaultsOfWork self.old.totals self.new.totals }
+        // Each refusal is of something that was due, and is counted once.
+        ensures totals { (refused : Refusals) × (self.new.totals ≡ with_refusals refused self.old.totals)
+            × DoesUnless refused self.old.ports self.new.core now (notes_of self.old) (notes_of self.new) }
         // Each warning that is due is logged, and no other.
         ensures told { AreLoggedIfDue (counts_to_log (happened self.new.totals self.new.core
             self.new.ports)) now
@@ -348,9 +358,7 @@ impl<'a, R: SystemClock> RunningRouter<'a, R> {
         ensures written { IsDoneIfDue 10000 now self.old.written self.new.written }
     {
         self.ask(now);
-        self.look(rt, alloc, now);
-        self.write_metrics(rt, alloc, now);
-        self.write_clients(rt, alloc, now);
+        self.look_and_write(rt, alloc, now);
         let metrics = self.metrics(now);
         if self.warnings.are_encapsulations_due(&metrics, now) {
             tell_encapsulations(rt, &self.ports);
@@ -413,14 +421,11 @@ impl<'a, R: SystemClock> RunningRouter<'a, R> {
             StopsThere NeverGoesBack self.old.ports self.new.ports
             self.old.asked self.new.asked self.old.core self.new.core
             self.new.ports.ethernet.moment result }
-        // Its totals are what the work added, and then what the batch did not send, and the fault
-        // that ended it.
-        ensures totals { CountsRound result self.old.totals self.new.totals }
-        // Before its turns it notes at that time what is due, as logged and written.
+        // Before its turns it notes at that time what is due, as logged and written. Its totals are
+        // those of before, with what was refused to this work. The batch is then added: what it did
+        // not send, and the fault that ended it.
         ensures work { WorksInRound self.old.ports self.old.core self.new.ports.ethernet.moment
-            self.old.asked self.new.asked result self.old.totals self.new.totals
-            self.old.warnings self.new.warnings self.old.drops self.new.drops
-            self.old.written self.new.written }
+            self.old.asked self.new.asked result (notes_of self.old) (notes_of self.new) }
         ensures ready { self.new.ready ≡ self.old.ready }
         // Ipxnet servers send and receive at the same time as Ethernet ports.
         ensures moments { self.new.ports.servers.moment ≡ self.new.ports.ethernet.moment }
@@ -467,6 +472,7 @@ impl<'a, R: SystemClock> RunningRouter<'a, R> {
         ensures asked { self.new.asked ≡ self.old.asked }
         ensures looked { (self.new.looked ≡ self.old.looked)
             × (self.new.responses ≡ self.old.responses) × (self.new.written ≡ self.old.written) }
+        ensures notes { notes_of self.new ≡ notes_of self.old }
     {
         if batch.fault.is_some() {
             return BACKOFF;
@@ -502,11 +508,8 @@ impl<'a, R: SystemClock> RunningRouter<'a, R> {
             × OnOk result (AreMarked (numbers_come self.new.ready) (marks_in ended)
             (marks_in self.new.ports))) self.new.ports
             × WaitsOnce time self.old.ready self.new.ready
-            × CountsRound batch self.old.totals self.new.totals
             × WorksInRound self.old.ports self.old.core self.new.ports.ethernet.moment
-            self.old.asked self.new.asked batch self.old.totals self.new.totals
-            self.old.warnings self.new.warnings self.old.drops self.new.drops
-            self.old.written self.new.written }
+            self.old.asked self.new.asked batch (notes_of self.old) (notes_of self.new) }
         // It fails exactly if the wait did.
         ensures fault { is_err result ≡ self.new.ready.failed }
         ensures moments { self.new.ports.servers.moment ≡ self.new.ports.ethernet.moment }

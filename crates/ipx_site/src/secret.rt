@@ -1,9 +1,10 @@
 //! The secret of a router, from which its ipxnet ports make the nodes of their clients, and the
 //! clients that it had before it was started again.
 
-ghost use Rattle.std.specs.Prelude.{◌≡◌, ◌⊎◌, [], IfErr, IfOk, false, replicate};
+ghost use Rattle.std.specs.Prelude.{◌≡◌, ◌⊎◌, [], IfErr, IfOk, Ok, false, replicate};
 ghost use Rattle.std.specs.List.{list_any};
 ghost use Rattle.ipx_site.specs.Secrets.{IsKeptOf, IsSecretFaultOf, is_ipxnet};
+ghost use Rattle.ipx_site.specs.declared.secret_file.SavedClients.{SavedClients};
 
 use crate::secret_file::{KeptText, SavedClients, kept_in, write_private};
 use ipx_config::{PortConfig, RouterConfig, tell_no_memory};
@@ -144,24 +145,17 @@ fn has_ipxnet_port(ports: &[PortConfig]) -> bool
         .any(|port| matches!(port, PortConfig::Ipxnet(_)))
 }
 
-/// The secret of a router, and the clients that it had before it was started again: those of its
-/// file, which is made if there is none, or random bytes and no client if no file is named. A router
-/// without an ipxnet port has none, and no file is opened. The path is that of the router's own file.
-/// The error is the exit status, after one line on standard error.
-pub(crate) fn kept_of<R: Files + Log + Eprint>(
+/// The secret of a router with an ipxnet port, and the clients that it had before it was started
+/// again: those of its file, which is made if there is none, or random bytes and no client if no file
+/// is named.
+fn kept_for_players<R: Files + Log + Eprint>(
     rt: &R,
     alloc: Global,
     path: &str,
     site: &RouterConfig,
 ) -> Result<SavedClients, u8>
-    ensures fault { IfErr result (λ status. status ≡ 1) }
-    // Without an ipxnet port there is no secret.
-    ensures none { list_any is_ipxnet site.now.ports.items ≡ false → IfOk result (λ kept.
-        (kept.secret.0 ≡ replicate 32 0) × (kept.clients.items ≡ [])) }
+    ensures { IfErr result (λ status. status ≡ 1) }
 {
-    if !has_ipxnet_port(&site.ports) {
-        return Ok(SavedClients::new(alloc, Secret([0; 32])));
-    }
     let Some(name) = &site.secret_file else {
         return match random_secret(rt) {
             Ok(secret) => Ok(SavedClients::new(alloc, secret)),
@@ -172,4 +166,24 @@ pub(crate) fn kept_of<R: Files + Log + Eprint>(
         Ok(kept) => Ok(kept),
         Err(fault) => Err(tell_secret_fault(rt, path, name, fault)),
     }
+}
+
+/// The secret of a router, and the clients that it had before it was started again. A router without
+/// an ipxnet port has none, and no file is opened. The path is that of the router's own file. The
+/// error is the exit status, after one line on standard error.
+pub(crate) fn kept_of<R: Files + Log + Eprint>(
+    rt: &R,
+    alloc: Global,
+    path: &str,
+    site: &RouterConfig,
+) -> Result<SavedClients, u8>
+    ensures fault { IfErr result (λ status. status ≡ 1) }
+    // Without an ipxnet port the secret is 32 zero bytes, and there is no client.
+    ensures none { list_any is_ipxnet site.now.ports.items ≡ false → (kept : SavedClients)
+        × (result ≡ Ok kept) × (kept.secret.0 ≡ replicate 32 0) × (kept.clients.items ≡ []) }
+{
+    if !has_ipxnet_port(&site.ports) {
+        return Ok(SavedClients::new(alloc, Secret([0; 32])));
+    }
+    kept_for_players(rt, alloc, path, site)
 }

@@ -1,5 +1,7 @@
 //! Files that a running router writes, and the last one that it could not write.
 
+ghost use Rattle.std.specs.Prelude.{◌≡◌, Err, IfErr, Ok, OnOk};
+
 use ipx_config::TEMPORARY;
 use std::alloc::Global;
 use std::io::ErrorKind;
@@ -21,6 +23,14 @@ pub struct FileFault {
     pub error: io::Error,
 }
 
+/// Why a file was not written.
+#[derive(Clone, Copy)]
+pub enum WriteFault {
+    OutOfMemory,
+    /// The system refused it, or memory ran out as it was written.
+    File(io::Error),
+}
+
 impl WrittenFile {
     /// The key that names the file in the router's own file.
     pub fn key(&self) -> &'static str {
@@ -29,6 +39,17 @@ impl WrittenFile {
             WrittenFile::Tables => "tables_file",
             WrittenFile::Secret => "secret_file",
         }
+    }
+}
+
+/// The result of writing a file, with its error as a fault.
+pub fn written(done: io::Result<()>) -> Result<(), WriteFault>
+    ensures well { OnOk done (result ≡ Ok tt) }
+    ensures refused { IfErr done (λ e. result ≡ Err (WriteFault.File e)) }
+{
+    match done {
+        Ok(()) => Ok(()),
+        Err(error) => Err(WriteFault::File(error)),
     }
 }
 

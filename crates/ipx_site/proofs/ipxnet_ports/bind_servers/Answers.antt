@@ -18,11 +18,13 @@ loop-place-preserved g c =
             rw (w.sockets-is, w.in_ok-bind_server.ensures.at, c.loop-place.invariant.0, grown, same, one) (sym (map-append _ before (w.in-Ipxnet.port ∷ []))),
             rw (w.sockets-is, are, grown, same, one) (at_one_more _ _ _ _ c.loop-place.invariant.1 may),
             rw (w.sockets-is, w.in_ok-bind_server.ensures.fresh, c.loop-place.invariant.2, grown, same, one) (sym (map-append _ before (w.in-Ipxnet.port ∷ []))),
+            rw (w.sockets-is, w.in_ok-bind_server.ensures.marks, c.loop-place.invariant.3, grown, same, one) (sym (map-append _ before (w.in-Ipxnet.port ∷ []))),
           )
           )
       | in_default w ↦ (
         rw (w.sockets-is, grown, same, no_ipxnet item w.in_default.not-Ipxnet, append-nil _) c.loop-place.invariant.0,
         rw (w.sockets-is, grown, same, no_ipxnet item w.in_default.not-Ipxnet, append-nil _) c.loop-place.invariant.1,
         rw (w.sockets-is, grown, same, no_ipxnet item w.in_default.not-Ipxnet, append-nil _) c.loop-place.invariant.2,
+        rw (w.sockets-is, grown, same, no_ipxnet item w.in_default.not-Ipxnet, append-nil _) c.loop-place.invariant.3,
       )
     ]

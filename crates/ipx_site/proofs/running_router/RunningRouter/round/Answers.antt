@@ -8,11 +8,15 @@ use Rattle.ipx_site.specs.IdleTime.{counts_to_log, happened}
 use Rattle.ipx_site.specs.PortsView.{ways_in}
 use Rattle.ipx_site.specs.RouterPings.{BeginsTurns, ipxnet_in}
 use Rattle.ipx_site.specs.RouterRounds.{AsksAgain}
-use Rattle.ipx_site.specs.RouterWork.{IsDoneIfDue}
+use Rattle.ipx_site.specs.RouterMetrics.{with_batch}
+use Rattle.ipx_site.specs.RouterWork.{notes_of}
+use Rattle.ipx_site.specs.WorkRefusals.{IsDoneIfDue, with_refusals}
+use Rattle.ipx_site.specs.declared.router_counts.RouterCounts.{RouterCounts}
 use Rattle.ipx_sockets.specs.Moments.{AreLoggedIfDue}
 use Rattle.ipx_sockets.specs.Steady.{NeverGoesBack, StopsThere}
 use Rattle.ipx_site.proofs.PortsRun.{ways_pinged, ways_stay}
 use Rattle.ipx_site.proofs.Rounds.{is_round}
+use Rattle.ipx_site.proofs.Worked.{does_then}
 use Rattle.ipx_site.proofs.running_router.RunningRouter.round.Goals as goal
 
 pub returns-clause-core : goal.returns-clause-core
@@ -43,9 +47,6 @@ returns-clause-core g c =
     (ways_pinged told begun e.datagrams e.ethernet e.port_indices ∙ ways_stay kept.ports told now later.datagrams later.ethernet later.servers later.port_indices ∙ ap ways_in c.keep.ensures.ports)
     (c.run_batch-batch.ensures.turns (ap (λ s. length s.items) e.port_indices ∙ ap (λ s. length s.items) later.port_indices ∙ kept.port_indices, omega arith))
 
-pub returns-clause-totals : goal.returns-clause-totals
-returns-clause-totals g c = (c.keep.new.self.totals, c.keep.ensures.totals, c.add.ensures)
-
 pub returns-clause-work : goal.returns-clause-work
 returns-clause-work g c =
     let self = c.args.self.now in
@@ -53,14 +54,17 @@ returns-clause-work g c =
     let now = c.stop-now.result in
     let moment : c.run_batch-batch.new.driver.ethernet.moment ≡ now =
     ap (λ k. k.2) c.run_batch-batch.ensures.kept ∙ ap (λ w. w.moment) c.send_pings.ensures.ethernet ∙ ap (λ w. w.moment) c.set_time.ensures.ethernet in
+    let refused = c.keep.ensures.totals.0 in
+    let totals : kept.totals ≡ with_refusals refused self.totals = c.keep.ensures.totals.1 in
     let told = subst (λ p. AreLoggedIfDue (counts_to_log (happened kept.totals kept.core p)) now self.warnings.causes kept.warnings.causes) c.keep.ensures.ports c.keep.ensures.told in
+    let told_of = subst (λ (t : RouterCounts). AreLoggedIfDue (counts_to_log (happened t kept.core self.ports)) now self.warnings.causes kept.warnings.causes) totals told in
     record {
       mid = kept.core;
       asks = subst (λ (m : ℕ). AsksAgain m self.asked kept.asked self.core kept.core) (sym moment) c.keep.ensures.core;
-      worked = kept.totals;
-      faults = c.keep.ensures.totals;
-      batch = c.add.ensures;
-      warns = subst (λ (m : ℕ). AreLoggedIfDue (counts_to_log (happened kept.totals kept.core self.ports)) m self.warnings.causes kept.warnings.causes) (sym moment) told;
+      refused = refused;
+      works = does_then refused self.ports kept.core now _ (notes_of self) (notes_of kept) c.add.new.self kept.warnings kept.drops moment c.keep.ensures.totals.2;
+      totals = c.add.ensures ∙ ap (with_batch c.run_batch-batch.result) totals;
+      warns = subst (λ (m : ℕ). AreLoggedIfDue (counts_to_log (happened (with_refusals refused self.totals) kept.core self.ports)) m self.warnings.causes kept.warnings.causes) (sym moment) told_of;
       logs = subst (λ (m : ℕ). AreDropsLogged kept.core.core.core.core.outcomes kept.core.drops m self.drops kept.drops) (sym moment) c.keep.ensures.drops;
       writes = subst (λ (m : ℕ). IsDoneIfDue 10000 m self.written kept.written) (sym moment) c.keep.ensures.written;
     }

@@ -2,8 +2,8 @@ use Rattle.std.proofs.Common.{◌∙◌, ap, rules, subst, sym}
 use Rattle.ipx_carrier.specs.ReadySet.{is_any_marked}
 use Rattle.ipx_site.specs.IdleTime.{IsDue, deadlines, happened}
 use Rattle.ipx_sockets.specs.Polling.{WaitsOnce}
-use Rattle.ipx_site.specs.RouterMetrics.{CountsRound}
 use Rattle.ipx_site.specs.RouterRounds.{IsRound, SleepsAfter}
+use Rattle.ipx_site.specs.RouterWork.{notes_of}
 use Rattle.ipx_site.specs.SiteMarks.{marks_in}
 use Rattle.ipx_sockets.specs.Steady.{NeverGoesBack, StopsThere}
 use Rattle.ipx_site.proofs.MarksSeparate.{happened_separate, same_marks}
@@ -42,9 +42,8 @@ returns-in_err-wait-clause-core g c =
         same_marks t.ports,
       ),
       waits_once,
-      subst (λ it. CountsRound b old.totals it) (sym e.totals) c.round-batch.ensures.totals,
-      works_then old.ports old.core old.asked b old.totals old.warnings old.drops old.written s.ports.ethernet.moment _ s.asked _ s.totals _ s.warnings _ s.drops _ s.written _
-          (ap (λ it. it.ethernet.moment) e.ports) e.asked e.totals e.warnings e.drops e.looked.2 c.round-batch.ensures.work,
+      works_then old.ports old.core old.asked b (notes_of old) s.ports.ethernet.moment _ s.asked _ (notes_of s) _
+          (ap (λ it. it.ethernet.moment) e.ports) e.asked e.notes c.round-batch.ensures.work,
     )
 
 pub returns-clause-core : goal.returns-clause-core
@@ -83,7 +82,6 @@ returns-clause-core g c =
         m,
       ),
       waits_once,
-      subst (λ it. CountsRound b old.totals it) (sym e.totals) c.round-batch.ensures.totals,
-      works_then old.ports old.core old.asked b old.totals old.warnings old.drops old.written s.ports.ethernet.moment _ s.asked _ s.totals _ s.warnings _ s.drops _ s.written _
-          (ap (λ it. it.moment) m.ethernet ∙ ap (λ it. it.ethernet.moment) e.ports) e.asked e.totals e.warnings e.drops e.looked.2 c.round-batch.ensures.work,
+      works_then old.ports old.core old.asked b (notes_of old) s.ports.ethernet.moment _ s.asked _ (notes_of s) _
+          (ap (λ it. it.moment) m.ethernet ∙ ap (λ it. it.ethernet.moment) e.ports) e.asked e.notes c.round-batch.ensures.work,
     )
