@@ -119,14 +119,14 @@ def check_without_tables(sites, listening):
 
 
 def check_farewell(sites, listening):
-    """Beside the router; after it was stopped; after it was started again; and without tables of use."""
+    """Beside the router; after it was stopped; after it was started again; and without tables of use. Whether it ended with
+    status 0 after the router was stopped, and said nothing."""
     until(lambda: written(sites) and are_said(sites, ADDED, 1), 25)
     sites.check("neighbours of a router that is to stop know its routes and its service", are_said(sites, ADDED, 1))
     received(listening)
     check_unsaid(sites, listening, "beside the router", IN_USE.format(sites.world.path(f"{NAME}.toml"), FIRST, sites.port))
     sites.routers[NAME].end()
-    got = farewell(sites)
-    sites.check("ipx farewell, after the router was stopped", got == (0, []), "" if got == (0, []) else str(got))
+    ended = farewell(sites)
     check_said(sites, "both neighbours forget its routes and its service within 2 s", LOST, 1)
     got = received(listening)
     sites.check("what is taken back comes three times, byte by byte", got == [GONE] * 3, "" if got == [GONE] * 3 else str(got))
@@ -137,3 +137,4 @@ def check_farewell(sites, listening):
     received(listening)
     check_without_tables(sites, listening)
     listening.close()
+    return ended == (0, [])
