@@ -32,7 +32,11 @@ fn tell_old<R: Eprint>(rt: &R, place: &str, age: Option<u64>) -> u8
             );
             1
         }
-        None => tell(rt, place, "the age of tables_file is not known: nothing is sent"),
+        None => tell(
+            rt,
+            place,
+            "the age of tables_file is not known: nothing is sent",
+        ),
     }
 }
 
@@ -80,7 +84,11 @@ fn farewell_of_site<R: Net + Files + Clock + Eprint>(
     ensures { result ≤ 1 }
 {
     let Some(place) = &site.tables_file else {
-        return tell(rt, path, "tables_file is missing: farewell reads what the router writes there");
+        return tell(
+            rt,
+            path,
+            "tables_file is missing: farewell reads what the router writes there",
+        );
     };
     let Ok(tables) = recent_tables(rt, alloc, place.as_str()) else {
         return 1;

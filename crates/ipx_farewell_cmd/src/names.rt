@@ -23,7 +23,7 @@ fn first_byte(word: &[u8]) -> Option<(u8, usize)> {
 /// is no byte but these.
 pub fn name_in(word: &[u8]) -> Option<[u8; 48]> {
     let mut name = [0; NAME_SIZE];
-    if word == b"-" {
+    if word == b"-".as_slice() {
         return Some(name);
     }
     let mut rest = word;

@@ -27,8 +27,14 @@ fn at_the_second_port(rt: HostRuntime) -> Result<(), Fail> {
         assert_eq!(rt; packet.port, 2);
         assert!(rt; packet.next == Node::BROADCAST);
     }
-    assert_eq!(rt; hex::encode(alloc, packets[0].bytes.as_slice())?.as_str(), ROUTES);
-    assert_eq!(rt; hex::encode(alloc, packets[1].bytes.as_slice())?.as_str(), SERVICES);
+    assert_eq!(rt;
+        hex::encode(alloc, packets[0].bytes.as_slice())?.as_str(),
+        ROUTES
+    );
+    assert_eq!(rt;
+        hex::encode(alloc, packets[1].bytes.as_slice())?.as_str(),
+        SERVICES
+    );
     Ok(())
 }
 

@@ -5,8 +5,9 @@ ghost use Rattle.std.specs.List.{starts_with};
 ghost use Rattle.ipx_tool.specs.Words.{ArePlain, AskForOne, AsksFor, Finds, IsOfType, IsPingTimes, IsPlain, WritesNumber, target_words};
 
 use crate::commands::{
-    CHECK, CHECK_OPTION, COUNT_OPTION, FAREWELL, FRAME_IS, FRAME_OPTION, HOP, IPXNET, JSON_OPTION, LISTEN,
-    NETWORKS, ONCE_OPTION, PING, PORT_IS, PORT_OPTION, ROUTE, SEND, SERVICES, SHOW, SIM, UDP,
+    CHECK, CHECK_OPTION, COUNT_OPTION, FAREWELL, FRAME_IS, FRAME_OPTION, HOP, IPXNET, JSON_OPTION,
+    LISTEN, NETWORKS, ONCE_OPTION, PING, PORT_IS, PORT_OPTION, ROUTE, SEND, SERVICES, SHOW, SIM,
+    UDP,
 };
 use crate::help::whole_command;
 use clap::Error;
