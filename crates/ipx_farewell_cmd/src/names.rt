@@ -27,15 +27,16 @@ pub fn name_in(word: &[u8]) -> Option<[u8; 48]> {
         return Some(name);
     }
     let mut rest = word;
-    let mut count = 0;
-    while !rest.is_empty() {
+    for place in 0..NAME_SIZE {
+        if rest.is_empty() {
+            break;
+        }
         let (byte, size) = first_byte(rest)?;
-        if count >= NAME_SIZE || size > rest.len() {
+        if size > rest.len() {
             return None;
         }
-        name[count] = byte;
-        count += 1;
+        name[place] = byte;
         rest = &rest[size..];
     }
-    Some(name)
+    if rest.is_empty() { Some(name) } else { None }
 }

@@ -1,18 +1,18 @@
 //! The pauses between packets, so that slow neighbours receive all of them.
 
 ghost use Rattle.std.specs.Prelude.{◌≡◌};
-ghost use Rattle.ipx_farewell_cmd.specs.Pauses.{pause_after_packet, pause_after_round};
+ghost use Rattle.ipx_farewell_cmd.specs.Pauses.{pause_after_packet, rounds};
 
 /// The packets of a port that are sent without a pause.
 const AT_ONCE: usize = 16;
 
-/// The pause after those, and the pause between two rounds, in milliseconds.
+/// The pause after those, in milliseconds.
 const BETWEEN_PACKETS: u64 = 55;
 
-const BETWEEN_ROUNDS: u64 = 300;
-
-/// How often all packets are sent.
 const ROUNDS: u8 = 3;
+
+/// The pause between two rounds, in milliseconds.
+pub const BETWEEN_ROUNDS: u64 = 300;
 
 /// The pause in milliseconds after the packet of a port with this number, from 1.
 pub fn pause_after_packet(number: usize) -> Option<u64>
@@ -25,13 +25,9 @@ pub fn pause_after_packet(number: usize) -> Option<u64>
     }
 }
 
-/// The pause in milliseconds after the round with this number, from 1. None is after the last.
-pub fn pause_after_round(number: u8) -> Option<u64>
-    ensures { result ≡ pause_after_round number }
+/// How often all packets are sent.
+pub fn rounds() -> u8
+    ensures { result ≡ rounds }
 {
-    if number < ROUNDS {
-        Some(BETWEEN_ROUNDS)
-    } else {
-        None
-    }
+    ROUNDS
 }

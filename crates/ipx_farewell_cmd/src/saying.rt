@@ -1,7 +1,7 @@
 //! Sends the packets of all ports, with pauses.
 
 use crate::fault::FarewellFault;
-use crate::pauses::{pause_after_packet, pause_after_round};
+use crate::pauses::{BETWEEN_ROUNDS, pause_after_packet, rounds};
 use crate::ports::ToldPort;
 use ipx_sockets::{Poller, WaitFault};
 
@@ -24,15 +24,14 @@ fn say_once(told: &mut [ToldPort], pauses: &mut Poller) -> Result<(), WaitFault>
     Ok(())
 }
 
-/// Sends the packets of each port in each round, and pauses between rounds. The poller must watch
+/// Sends the packets of all ports in each round, and pauses between rounds. The poller must watch
 /// nothing.
 pub fn say_all(told: &mut [ToldPort], pauses: &mut Poller) -> Result<(), FarewellFault> {
-    let mut round = 1;
-    while let Some(pause) = pause_after_round(round) {
+    for round in 0..rounds() {
+        if round > 0 {
+            pauses.wait(BETWEEN_ROUNDS)?;
+        }
         say_once(told, pauses)?;
-        pauses.wait(pause)?;
-        round += 1;
     }
-    say_once(told, pauses)?;
     Ok(())
 }
