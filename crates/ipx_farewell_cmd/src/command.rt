@@ -107,8 +107,9 @@ fn farewell_of_site<R: Net + Files + Clock + Eprint>(
 /// three times, in under a second for a usual site. Ports for ipxnet are left out.
 ///
 /// Returns the exit status. 1: there are no complete tables of the last 30 seconds, a place is in
-/// use, as it is while the router runs, or memory runs out. Nothing is sent then. 2: a fault of the
-/// router's file. A line on standard error says what is wrong.
+/// use, as it is while the router runs, or memory runs out. Nothing is sent then. Also 1: the system
+/// does not wait; some packets may have been sent. 2: a fault of the router's file. A line on
+/// standard error says what is wrong.
 pub fn do_farewell<R: Net + Files + Clock + Eprint>(rt: &R, alloc: Global, path: &str) -> u8
     ensures few { result ≤ 2 }
 {
