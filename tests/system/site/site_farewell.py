@@ -8,7 +8,7 @@ from site_world import bound, node, port_table, until
 # A router with a static network and service behind its first port, where somebody listens. Its neighbours are a router at an
 # RFC 1234 port and one at an Ethernet port.
 NAME, BY_DATAGRAMS, BY_FRAMES = "bye", "bye-datagrams", "bye-frames"
-FIRST, SECOND, THIRD, LISTENING, NEAR, WIRED = (f"127.0.2.{number}" for number in range(1, 7))
+FIRST, SECOND, THIRD, LISTENING, NEAR, WIRED = (f"127.0.2.{number}" for number in range(201, 207))
 LEAVING = [FIRST, SECOND, THIRD, LISTENING, NEAR, WIRED]
 LEAVERS = [BY_DATAGRAMS, BY_FRAMES]
 ENTRIES = f"""
