@@ -1,7 +1,7 @@
 # Bash completion for `ipx`: commands, their options, and TOML files. ./install puts it where bash-completion looks for it.
 # Without installing, load it by `. contrib/ipx.bash`.
 
-_ipx_commands='hop show check sim udp route ipxnet listen send networks services ping help'
+_ipx_commands='hop show check sim udp route farewell ipxnet listen send networks services ping help'
 
 # _ipx_options COMMAND: its options, the same as in `ipx COMMAND --help`, which a test checks.
 _ipx_options() {
@@ -12,7 +12,7 @@ _ipx_options() {
     listen) echo '--once --check --help' ;;
     networks | services) echo '--json --help' ;;
     ping) echo '-c --help' ;;
-    hop | check | sim | send) echo '--help' ;;
+    hop | check | sim | farewell | send) echo '--help' ;;
     '') echo '--help --version' ;;
   esac
 }
@@ -37,7 +37,7 @@ _ipx() {
   fi
   case $command in
     '' | help) mapfile -t COMPREPLY < <(compgen -W "$_ipx_commands" -- "$word") ;;
-    route | listen | send | networks | services | ping)
+    route | farewell | listen | send | networks | services | ping)
       # (the file is the first argument that is not an option)
       for ((place = 2; place < COMP_CWORD; place++)); do
         [[ ${COMP_WORDS[place]} == -* ]] || return

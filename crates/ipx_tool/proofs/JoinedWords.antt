@@ -1,7 +1,7 @@
 -- `--port` with a number, and `--frame` with a node, in one word and in two.
 use Rattle.std.proofs.Common.{◌≡◌, ℕ, true, false, inl, inr, List, [], ◌∷◌, ◌++◌, get_or, Option, Some, None, codes, arith, ap, sym, subst}
 use Rattle.ipx_tool.specs.declared.words.Task.{Task}
-use Rattle.ipx_tool.specs.declared.words.Task.TheVariants.{Show, ShowFrames, Udp, Ipxnet, Route, CheckSite, Listen, CheckHost, Networks, Services, ServicesOf}
+use Rattle.ipx_tool.specs.declared.words.Task.TheVariants.{Show, ShowFrames, Udp, Ipxnet, Route, Farewell, CheckSite, Listen, CheckHost, Networks, Services, ServicesOf}
 use Rattle.ipx_tool.specs.Words.{AsksFor, Finds}
 use Rattle.ipx_tool.proofs.WordsSeparate.{check_or_frame, frame_or_json, not_plain, once_or_frame, port_or_check, port_or_frame, port_or_json, port_or_once, second}
 
@@ -53,6 +53,8 @@ parted command text (Ipxnet port) (inl asks) = absurd (cc)
 parted command text (Ipxnet port) (inr (other, is, inl e)) = absurd (cc)
 parted command text (Ipxnet port) (inr (other, is, inr e)) = inr (other, is, inl (cc))
 parted command text (Route file) (e, plain) =
+    let option : file.now ≡ codes "--port=" ++ text = cc in absurd (not_plain file.now _ option plain)
+parted command text (Farewell file) (e, plain) =
     let option : file.now ≡ codes "--port=" ++ text = cc in absurd (not_plain file.now _ option plain)
 parted command text (Listen file false) (e, plain) =
     let option : file.now ≡ codes "--port=" ++ text = cc in absurd (not_plain file.now _ option plain)
@@ -134,6 +136,8 @@ frame_parted command text (Ipxnet port) (inr (other, is, inr e)) =
     let words : codes "--frame=" ++ text ≡ codes "--port=" ++ other = second e in
     absurd (omega (arith, ap (λ (word : List ℕ). get_or word 2 0) words))
 frame_parted command text (Route file) (e, plain) =
+    let option : file.now ≡ codes "--frame=" ++ text = cc in absurd (not_plain file.now _ option plain)
+frame_parted command text (Farewell file) (e, plain) =
     let option : file.now ≡ codes "--frame=" ++ text = cc in absurd (not_plain file.now _ option plain)
 frame_parted command text (Listen file false) (e, plain) =
     let option : file.now ≡ codes "--frame=" ++ text = cc in absurd (not_plain file.now _ option plain)

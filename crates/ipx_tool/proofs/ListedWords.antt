@@ -2,7 +2,7 @@
 use Rattle.std.proofs.Common.{◌≡◌, ◌≢◌, ◌≤◌, ◌<◌, ℕ, true, false, inl, inr, List, [], ◌∷◌, length, map, drop, get_or, length-drop, Option, arith, ap, sym, subst, ◌∙◌}
 use Rattle.std.proofs.lemmas.List.{length-map}
 use Rattle.ipx_tool.specs.declared.words.Task.{Task}
-use Rattle.ipx_tool.specs.declared.words.Task.TheVariants.{Hop, Show, ShowFrames, Check, Sim, Udp, Ipxnet, Route, CheckSite, Listen, CheckHost, Send, Networks, Services, ServicesOf, Ping, PingTimes}
+use Rattle.ipx_tool.specs.declared.words.Task.TheVariants.{Hop, Show, ShowFrames, Check, Sim, Udp, Ipxnet, Route, Farewell, CheckSite, Listen, CheckHost, Send, Networks, Services, ServicesOf, Ping, PingTimes}
 use Rattle.ipx_tool.specs.Words.{AsksFor, Finds}
 
 -- the number of words
@@ -21,6 +21,7 @@ none_so_many words two three four five six eight (Ipxnet port) (inl (e, is)) = o
 none_so_many words two three four five six eight (Ipxnet port) (inr (text, is, inl e)) = omega (arith, length-drop 1 words, ap length e)
 none_so_many words two three four five six eight (Ipxnet port) (inr (text, is, inr e)) = omega (arith, length-drop 1 words, ap length e)
 none_so_many words two three four five six eight (Route file) (e, plain) = omega (arith, length-drop 1 words, ap length e)
+none_so_many words two three four five six eight (Farewell file) (e, plain) = omega (arith, length-drop 1 words, ap length e)
 none_so_many words two three four five six eight (Listen file false) (e, plain) = omega (arith, length-drop 1 words, ap length e)
 none_so_many words two three four five six eight (Listen file true) (inl e, plain) = omega (arith, length-drop 1 words, ap length e)
 none_so_many words two three four five six eight (Listen file true) (inr e, plain) = omega (arith, length-drop 1 words, ap length e)

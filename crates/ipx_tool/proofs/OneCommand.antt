@@ -4,7 +4,7 @@ use Rattle.std.specs.Str.Parse.{digits_value, without_leading_plus}
 use Rattle.ipx_wire.specs.AddressText.{spelled_node}
 use Rattle.ipx_wire.specs.declared.address.Node.{Node}
 use Rattle.ipx_tool.specs.declared.words.Task.{Task}
-use Rattle.ipx_tool.specs.declared.words.Task.TheVariants.{Hop, Show, ShowFrames, Check, Sim, Udp, Ipxnet, Route, CheckSite, Listen, CheckHost, Send, Networks, Services, ServicesOf, Ping, PingTimes}
+use Rattle.ipx_tool.specs.declared.words.Task.TheVariants.{Hop, Show, ShowFrames, Check, Sim, Udp, Ipxnet, Route, Farewell, CheckSite, Listen, CheckHost, Send, Networks, Services, ServicesOf, Ping, PingTimes}
 use Rattle.ipx_tool.specs.Words.{ArePortWords, AskForOne, AsksFor, WritesNumber, IsSame, target_words}
 use Rattle.ipx_tool.proofs.WordsSeparate.{first, not_plain, once_or_check, second, third}
 use Rattle.ipx_tool.proofs.PingWords.{same_others}
@@ -18,6 +18,7 @@ name Sim = codes "sim"
 name (Udp port) = codes "udp"
 name (Ipxnet port) = codes "ipxnet"
 name (Route file) = codes "route"
+name (Farewell file) = codes "farewell"
 name (CheckSite file) = codes "route"
 name (Listen file once) = codes "listen"
 name (CheckHost file) = codes "listen"
@@ -46,6 +47,7 @@ named words (Ipxnet port) (inl (e, is)) = ap (λ ws. get_or ws 0 []) e
 named words (Ipxnet port) (inr (text, is, inl e)) = ap (λ ws. get_or ws 0 []) e
 named words (Ipxnet port) (inr (text, is, inr e)) = ap (λ ws. get_or ws 0 []) e
 named words (Route file) (e, plain) = ap (λ ws. get_or ws 0 []) e
+named words (Farewell file) (e, plain) = ap (λ ws. get_or ws 0 []) e
 named words (Listen file false) (e, plain) = ap (λ ws. get_or ws 0 []) e
 named words (Listen file true) (inl e, plain) = ap (λ ws. get_or ws 0 []) e
 named words (Listen file true) (inr e, plain) = ap (λ ws. get_or ws 0 []) e
@@ -107,6 +109,7 @@ one_of_a_name words Sim Sim same asks too = tt
 one_of_a_name words (Udp port) (Udp other) same asks too = one_port words (codes "udp") port other asks too
 one_of_a_name words (Ipxnet port) (Ipxnet other) same asks too = one_port words (codes "ipxnet") port other asks too
 one_of_a_name words (Route file) (Route other) same (e, plain) (f, also) = cc
+one_of_a_name words (Farewell file) (Farewell other) same (e, plain) (f, also) = cc
 one_of_a_name words (Listen file false) (Listen other false) same (e, plain) (f, also) = (cc, refl)
 one_of_a_name words (Listen file false) (Listen other true) same (e, plain) (inl f, also) = absurd (cc)
 one_of_a_name words (Listen file false) (Listen other true) same (e, plain) (inr f, also) = absurd (cc)

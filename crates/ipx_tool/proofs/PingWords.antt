@@ -3,7 +3,7 @@ use Rattle.std.proofs.Common.{◌≡◌, ◌≢◌, ◌≤◌, ℕ, true, false,
 use Rattle.std.proofs.lemmas.List.{length-append}
 use Rattle.ipx_config.specs.declared.target.Target.{Target}
 use Rattle.ipx_tool.specs.declared.words.Task.{Task}
-use Rattle.ipx_tool.specs.declared.words.Task.TheVariants.{Hop, Show, ShowFrames, Check, Sim, Udp, Ipxnet, Route, CheckSite, Listen, CheckHost, Send, Networks, Services, ServicesOf, Ping, PingTimes}
+use Rattle.ipx_tool.specs.declared.words.Task.TheVariants.{Hop, Show, ShowFrames, Check, Sim, Udp, Ipxnet, Route, Farewell, CheckSite, Listen, CheckHost, Send, Networks, Services, ServicesOf, Ping, PingTimes}
 use Rattle.ipx_tool.specs.Words.{ArePlain, AsksFor, Finds, IsPingTimes, IsPlain, WritesNumber, IsOptionAmong, target_words}
 use Rattle.ipx_tool.proofs.WordsSeparate.{fifth, first, fourth, not_plain, second, third}
 
@@ -64,6 +64,7 @@ long words (Ipxnet port) many (inl (e, is)) = absurd (omega (arith, many, ap len
 long words (Ipxnet port) many (inr (text, is, inl e)) = absurd (omega (arith, many, ap length e))
 long words (Ipxnet port) many (inr (text, is, inr e)) = absurd (omega (arith, many, ap length e))
 long words (Route file) many (e, plain) = absurd (omega (arith, many, ap length e))
+long words (Farewell file) many (e, plain) = absurd (omega (arith, many, ap length e))
 long words (Listen file false) many (e, plain) = absurd (omega (arith, many, ap length e))
 long words (Listen file true) many (inl e, plain) = absurd (omega (arith, many, ap length e))
 long words (Listen file true) many (inr e, plain) = absurd (omega (arith, many, ap length e))

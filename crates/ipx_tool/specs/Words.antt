@@ -6,7 +6,7 @@ use Rattle.ipx_wire.specs.AddressText.{spelled_node}
 use Rattle.ipx_carrier.specs.Mapping.{usual_port}
 use Rattle.ipx_config.specs.declared.target.Target.{Target}
 use Rattle.ipx_tool.specs.declared.words.Task.{Task}
-use Rattle.ipx_tool.specs.declared.words.Task.TheVariants.{Hop, Show, ShowFrames, Check, Sim, Udp, Ipxnet, Route, CheckSite, Listen, CheckHost, Send, Networks, Services, ServicesOf, Ping, PingTimes}
+use Rattle.ipx_tool.specs.declared.words.Task.TheVariants.{Hop, Show, ShowFrames, Check, Sim, Udp, Ipxnet, Route, Farewell, CheckSite, Listen, CheckHost, Send, Networks, Services, ServicesOf, Ping, PingTimes}
 
 -- a word that is no option: it does not begin with `-`
 abbrev pub IsPlain : List ℕ → Type 0
@@ -59,6 +59,7 @@ AsksFor words Sim = words ≡ codes "sim" ∷ []
 AsksFor words (Udp port) = ArePortWords words (codes "udp") port
 AsksFor words (Ipxnet port) = ArePortWords words (codes "ipxnet") port
 AsksFor words (Route file) = (words ≡ codes "route" ∷ file.now ∷ []) × IsPlain file.now
+AsksFor words (Farewell file) = (words ≡ codes "farewell" ∷ file.now ∷ []) × IsPlain file.now
 AsksFor words (CheckSite file) = ((words ≡ codes "route" ∷ codes "--check" ∷ file.now ∷ [])
     ⊎ (words ≡ codes "route" ∷ file.now ∷ codes "--check" ∷ [])) × IsPlain file.now
 AsksFor words (Listen file false) = (words ≡ codes "listen" ∷ file.now ∷ []) × IsPlain file.now
@@ -101,6 +102,7 @@ IsSame Sim Sim = Unit {0}
 IsSame (Udp port) (Udp other) = port ≡ other
 IsSame (Ipxnet port) (Ipxnet other) = port ≡ other
 IsSame (Route file) (Route other) = file.now ≡ other.now
+IsSame (Farewell file) (Farewell other) = file.now ≡ other.now
 IsSame (CheckSite file) (CheckSite other) = file.now ≡ other.now
 IsSame (Listen file once) (Listen other again) = (file.now ≡ other.now) × (once ≡ again)
 IsSame (CheckHost file) (CheckHost other) = file.now ≡ other.now

@@ -54,6 +54,8 @@ pub const UDP: &str = "udp";
 
 pub const ROUTE: &str = "route";
 
+pub const FAREWELL: &str = "farewell";
+
 pub const IPXNET: &str = "ipxnet";
 
 pub const LISTEN: &str = "listen";
@@ -202,6 +204,20 @@ const ROUTE_SHAPE: &CommandShape = &CommandShape {
     options: &[CHECKS_FILE],
 };
 
+const FAREWELL_SHAPE: &CommandShape = &CommandShape {
+    name: FAREWELL,
+    about: "Takes back what a router that has stopped advertised",
+    long_about: texts::FAREWELL,
+    statuses: texts::FAREWELL_STATUSES,
+    words: &[WordShape {
+        name: "SITE",
+        help: "The configuration file of the router",
+        unless: None,
+        wanted: true,
+    }],
+    options: &[],
+};
+
 const IPXNET_SHAPE: &CommandShape = &CommandShape {
     name: IPXNET,
     about: "A server for players with DOSBox, without a file",
@@ -280,7 +296,7 @@ const PING_SHAPE: &CommandShape = &CommandShape {
 };
 
 /// All commands, in the order of the help.
-pub fn shapes() -> [&'static CommandShape; 12] {
+pub fn shapes() -> [&'static CommandShape; 13] {
     [
         HOP_SHAPE,
         SHOW_SHAPE,
@@ -288,6 +304,7 @@ pub fn shapes() -> [&'static CommandShape; 12] {
         SIM_SHAPE,
         UDP_SHAPE,
         ROUTE_SHAPE,
+        FAREWELL_SHAPE,
         IPXNET_SHAPE,
         LISTEN_SHAPE,
         SEND_SHAPE,

@@ -11,6 +11,7 @@ mod words;
 use build::{COMMIT, TOOLCHAIN};
 use clap::error::ErrorKind;
 use ipx_config::{Target, check_site};
+use ipx_farewell_cmd::do_farewell;
 use ipx_host::{check_host, do_listen, do_send};
 use ipx_inspect::{do_check, do_hop, do_show, do_show_frames, tell_no_memory};
 use ipx_query_cmd::{do_networks, do_ping, do_services};
@@ -96,6 +97,7 @@ fn do_task(rt: &HostRuntime, task: Task<'_>) -> Result<u8, u8> {
         Task::Udp(port) => udp(rt, port),
         Task::Ipxnet(port) => Ok(ipxnet(rt, port)),
         Task::Route(file) => Ok(do_route(rt, rt.alloc(), file)),
+        Task::Farewell(file) => Ok(do_farewell(rt, rt.alloc(), file)),
         Task::CheckSite(file) => Ok(check_site(rt, rt.alloc(), file, &mut io::writer(rt))),
         Task::CheckHost(file) => Ok(check_host(rt, rt.alloc(), file, &mut io::writer(rt))),
         Task::Listen(file, once) => {

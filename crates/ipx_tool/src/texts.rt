@@ -187,6 +187,26 @@ what is allowed but odd. Status 0: the file has no fault. 2: it has one, reporte
 Example:
   $ ipx route /etc/ipx/site.toml";
 
+pub const FAREWELL: &str = "\
+Takes back what a router that has stopped advertised
+
+A router that stops says nothing: its neighbours use its routes and services for three more minutes.
+After it has stopped, ipx farewell reads its configuration file SITE and its tables file. By each
+port but those for ipxnet it sends what the router advertised there, with 16 hops, which means that
+it is unreachable. It sends all of it three times, which takes under a second for a usual site, and
+seven seconds for each port if the tables are full. A router that starts again advertises at once.
+
+SITE must name a tables_file, which must be complete and at most 30 seconds old. What the router
+learned after it wrote that file is not taken back: it writes it every ten seconds.";
+
+pub const FAREWELL_STATUSES: &str = "\
+Status 0: all was sent. 1: the tables are missing, incomplete or too old, or an address of a port is
+in use, as it is while the router runs: then nothing is sent. Also if out of memory. 2: the
+configuration file has a fault. One line reports what is wrong.
+
+Example:
+  $ ipx farewell /etc/ipx/site.toml";
+
 pub const IPXNET: &str = "\
 A server for players with DOSBox, without a file
 

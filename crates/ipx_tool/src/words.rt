@@ -5,8 +5,9 @@ ghost use Rattle.std.specs.List.{starts_with};
 ghost use Rattle.ipx_tool.specs.Words.{ArePlain, AskForOne, AsksFor, Finds, IsOfType, IsPingTimes, IsPlain, WritesNumber, target_words};
 
 use crate::commands::{
-    CHECK, CHECK_OPTION, COUNT_OPTION, FRAME_IS, FRAME_OPTION, HOP, IPXNET, JSON_OPTION, LISTEN,
-    NETWORKS, ONCE_OPTION, PING, PORT_IS, PORT_OPTION, ROUTE, SEND, SERVICES, SHOW, SIM, UDP,
+    CHECK, CHECK_OPTION, COUNT_OPTION, FAREWELL, FRAME_IS, FRAME_OPTION, HOP, IPXNET, JSON_OPTION,
+    LISTEN, NETWORKS, ONCE_OPTION, PING, PORT_IS, PORT_OPTION, ROUTE, SEND, SERVICES, SHOW, SIM,
+    UDP,
 };
 use crate::help::whole_command;
 use clap::Error;
@@ -30,6 +31,8 @@ pub enum Task<'a> {
     Ipxnet(u16),
     /// The file of the site.
     Route(&'a str),
+    /// The file of the site whose router has stopped.
+    Farewell(&'a str),
     /// The file of a site, which is only checked.
     CheckSite(&'a str),
     /// The file of the host, and whether it ends after the first connection that is heard.
@@ -54,7 +57,7 @@ pub enum Task<'a> {
 /// for a command, and no others do:
 ///
 /// - `hop`, `check`, `sim`, `udp` or `ipxnet` alone;
-/// - `show`, `route` or `listen`, and one word that is no option;
+/// - `show`, `route`, `farewell` or `listen`, and one word that is no option;
 /// - `listen` and such a word, with `--once` before or after it;
 /// - `route` or `listen` and such a word, with `--check` before or after it;
 /// - `send` or `ping`, and four words that are no options; `ping` may have `-c` and a number after
@@ -129,6 +132,7 @@ fn word_task<'a>(command: &str, word: &'a str) -> Option<Task<'a>>
     match command {
         SHOW => Some(Task::Show(word)),
         ROUTE => Some(Task::Route(word)),
+        FAREWELL => Some(Task::Farewell(word)),
         LISTEN => Some(Task::Listen(word, false)),
         NETWORKS => Some(Task::Networks(word, false)),
         SERVICES => Some(Task::Services(word, false)),

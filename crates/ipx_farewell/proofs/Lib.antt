@@ -1,0 +1,5 @@
+pub mod Cuts
+pub mod Said
+pub mod Members
+pub mod Advertised
+pub mod Forgotten

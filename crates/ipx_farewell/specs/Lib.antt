@@ -1,0 +1,2 @@
+pub mod Farewell
+pub mod FarewellHeard
