@@ -59,15 +59,19 @@ def forge(sites, ends):
     port = (FORGED["f1"][0][1], sites.port)
     for source, network in ((EVERY_NODE, 0x77), (node(NAMED), 0x78), (node(FORGER), 0x79)):
         ends[FORGER].sendto(rip_response("00000051", source, [(network, 1, 1)]), port)
-    time.sleep(0.3)
+    # (it heard all three then)
+    until(lambda: any("route added: network 00000079" in line for line in sites.routers["f1"].said()), 12)
     for one in ends.values():
         drained(one)
     for network in (0x77, 0x78, 0x79):
         ends[FAR].sendto(ipx(4, (f"{network:08x}", "000000000001", "4002"), ("00000052", node(FAR), "4003"),
                              bytes([network])), (FORGED["f1"][1][1], sites.port))
-    time.sleep(0.3)
+    came = []
+    until(lambda: came.extend(bodies(ends[FORGER])) or came, 3)
+    time.sleep(0.2)
+    came += bodies(ends[FORGER])
     sites.check("routes told as every node and as another peer are not taken, and its own is, once",
-                [bodies(ends[FORGER]), bodies(ends[NAMED])] == [[b"\x79"], []])
+                [came, bodies(ends[NAMED])] == [[b"\x79"], []], str(came))
 
 
 def drained(one):
