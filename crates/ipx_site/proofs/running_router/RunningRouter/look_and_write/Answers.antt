@@ -41,8 +41,7 @@ returns-clause-totals g c =
       kept = kept.ensures.kept;
       rest = kept.ensures.rest;
     } in
-    let at_ports = subst (λ p. KeepsClients kept.result p now wrote.new.self.clients_file kept.new.self) ports keeps in
-    (
+    let at_ports = subst (λ p. KeepsClients kept.result p now wrote.new.self.clients_file kept.new.self) ports keeps in (
       refused,
       counted,
       record {
