@@ -257,6 +257,19 @@ class Watch:
         return waited(*self.pids) - self.waited
 
 
+def within(process, condition, seconds):
+    """Whether a condition comes within so many seconds, without those for which the machine denied a process a processor."""
+    watch, found = Watch(process.popen.pid), []
+
+    def is_over():
+        if condition():
+            found.append(True)
+        return found or watch.seconds() >= seconds
+
+    until(is_over, 20)
+    return bool(found)
+
+
 def compiled(world):
     """The program of tests/data/plain.c, or None where there is no gcc."""
     if not shutil.which("gcc"):

@@ -5,7 +5,7 @@ import time
 
 from site_callers import call, comes
 from site_packets import ipx
-from site_world import bound, listed, node, some_bytes, until
+from site_world import bound, listed, node, some_bytes, until, within
 
 # A listener with a peer on a network without a router, one that names nobody, and one that accepts any; what they
 # hear of somebody who is not named.
@@ -49,7 +49,7 @@ def disturb(sites, listener):
     call(peer, PEER, NAMES, sites.port, 99)
     listener.popen.send_signal(signal.SIGCONT)
     sites.check(f"a host hears at once what lies behind {WAITING} datagrams in another's name",
-                until(lambda: comes(peer), 0.5))
+                within(listener, lambda: comes(peer), 0.5))
     sites.check("a host answers no stranger", not comes(stranger))
     stranger.close()
     peer.close()

@@ -5,7 +5,7 @@ import struct
 import time
 
 from site_packets import ipx, rip_response
-from site_world import bound, listed, node, some_bytes, until, waiting_bytes
+from site_world import bound, listed, node, some_bytes, until, waiting_bytes, within
 
 # A router with two peers on one network, of which the first speaks for others, and one on another.
 FORGER, NAMED, FAR = "127.0.1.112", "127.0.1.113", "127.0.1.114"
@@ -59,15 +59,19 @@ def forge(sites, ends):
     port = (FORGED["f1"][0][1], sites.port)
     for source, network in ((EVERY_NODE, 0x77), (node(NAMED), 0x78), (node(FORGER), 0x79)):
         ends[FORGER].sendto(rip_response("00000051", source, [(network, 1, 1)]), port)
-    time.sleep(0.3)
+    # (it heard all three then)
+    until(lambda: any("route added: network 00000079" in line for line in sites.routers["f1"].said()), 12)
     for one in ends.values():
         drained(one)
     for network in (0x77, 0x78, 0x79):
         ends[FAR].sendto(ipx(4, (f"{network:08x}", "000000000001", "4002"), ("00000052", node(FAR), "4003"),
                              bytes([network])), (FORGED["f1"][1][1], sites.port))
-    time.sleep(0.3)
+    came = []
+    until(lambda: came.extend(bodies(ends[FORGER])) or came, 3)
+    time.sleep(0.2)
+    came += bodies(ends[FORGER])
     sites.check("routes told as every node and as another peer are not taken, and its own is, once",
-                [bodies(ends[FORGER]), bodies(ends[NAMED])] == [[b"\x79"], []])
+                [came, bodies(ends[NAMED])] == [[b"\x79"], []], str(came))
 
 
 def drained(one):
@@ -94,33 +98,33 @@ def ask(sites, ends):
                 not came_to(ends[NAMED], NAMED) and not came_to(ends[FORGER], FORGER))
     ends[FORGER].sendto(request(node(FORGER)), port)
     answers = []
-    until(lambda: answers.extend(came_to(ends[FORGER], FORGER)) or answers, 1)
+    within(sites.routers["f1"], lambda: answers.extend(came_to(ends[FORGER], FORGER)) or answers, 1)
     told = [body for socket, body in answers if socket == "0453"]
     sites.check("a request in its own name is answered", len(told) == 1 and told[0][:2] == b"\0\2")
 
 
-def is_answered(ends, port):
+def is_answered(ends, port, router):
     """Whether a true request is answered within a second."""
     ends[FORGER].sendto(request(node(FORGER)), port)
-    return until(lambda: came_to(ends[FORGER], FORGER), 1)
+    return within(router, lambda: came_to(ends[FORGER], FORGER), 1)
 
 
 def burst(sites, ends):
     """Forged datagrams that wait at once, and many that come fast; behind them a true request."""
-    port, router = (FORGED["f1"][0][1], sites.port), sites.routers["f1"].popen
-    router.send_signal(signal.SIGSTOP)
+    port, router = (FORGED["f1"][0][1], sites.port), sites.routers["f1"]
+    router.popen.send_signal(signal.SIGSTOP)
     for _ in range(WAITING):
         ends[FORGER].sendto(request(node(NAMED)), port)
     ends[FORGER].sendto(request(node(FORGER)), port)
-    router.send_signal(signal.SIGCONT)
+    router.popen.send_signal(signal.SIGCONT)
     sites.check(f"{WAITING} forged datagrams wait, and the true one behind them is heard at once",
-                until(lambda: came_to(ends[FORGER], FORGER), 1))
+                within(router, lambda: came_to(ends[FORGER], FORGER), 1))
     for _ in range(0, FAST, AT_ONCE):
         until(lambda: waiting_bytes(*port) < ROOM, 10)
         for _ in range(AT_ONCE):
             ends[FORGER].sendto(request(node(NAMED)), port)
     sites.check(f"{FAST} forged datagrams come fast, and the true one behind them is heard at once",
-                is_answered(ends, port))
+                is_answered(ends, port, router))
     sites.check("the peer that they named got nothing", not came_to(ends[NAMED], NAMED))
 
 

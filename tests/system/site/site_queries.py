@@ -7,7 +7,7 @@ import time
 
 from site_packets import ipx, sap_response
 from site_players import REGISTRATION, Client, ipxnet_table
-from site_world import bound, node, port_table, until
+from site_world import bound, node, port_table, until, within
 
 # A router with two peers on one network, of which the first asks and the second sends, and one on another.
 ASKER, SENDER, RECEIVER = "127.0.1.123", "127.0.1.124", "127.0.1.125"
@@ -153,7 +153,7 @@ def check_asked_by_players(sites, clients, neighbour):
     answers = 0
     for _ in range(NEIGHBOUR_ASKS):
         neighbour.sendto(route_request(NEIGHBOUR_NETWORK, node(NEIGHBOUR)), (NEIGHBOUR_PORT, sites.port))
-        answers += until(lambda: any(packet[16:18] == b"\x40\x03" for packet in drained(neighbour)), 0.5)
+        answers += within(sites.routers[LIMITED], lambda: any(packet[16:18] == b"\x40\x03" for packet in drained(neighbour)), 0.5)
     over.set()
     asking.join()
     sites.check(f"a router that starts has its answers, while {ASKING_SOCKETS} sockets of one player ask",
@@ -206,7 +206,7 @@ def check_nearest(sites, clients, neighbour, booting, afar):
         for name, (ask, came, kind) in nodes.items():
             came()
             ask()
-            answers[name] += until(lambda came=came, kind=kind: any(packet[30:32] == kind for packet in came()), 0.5)
+            answers[name] += within(sites.routers[LIMITED], lambda came=came, kind=kind: any(packet[30:32] == kind for packet in came()), 0.5)
     over.set()
     flood.join()
     routes = sum(packet[30:32] == b"\0\2" for packet in drained(neighbour))

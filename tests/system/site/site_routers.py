@@ -69,6 +69,11 @@ def sap_response(source, operation, network="00000061"):
                struct.pack(">H", operation) + service)
 
 
+def knows(sites, network):
+    """Waits until the router logs a network, which is a second after it heard of it: what came before is handled by then."""
+    until(lambda: any(f"route added: network {network}" in line for line in sites.routers[NAME].said()), 12)
+
+
 def tell(sites, ends):
     """A query by another number of the network is named as that. Routes that the host tells are not taken, those of the router
     that is named are."""
@@ -80,13 +85,13 @@ def tell(sites, ends):
     ends[NAMED].sendto(rip_response("00000061", node(NAMED), [(0x64, 1, 1)]), port)
     for operation in (2, 4):
         ends[HOST].sendto(sap_response(node(HOST), operation), port)
-    time.sleep(0.3)
+    knows(sites, "00000064")
     for network in (0x63, 0x64):
         ends[AWAY].sendto(ipx(4, (f"{network:08x}", "000000000001", "4002"), ("00000062", node(AWAY), "4003"),
                               bytes([network])), (FAR, sites.port))
-    time.sleep(0.3)
+    came = come(ends[NAMED], 1)
     sites.check("a route that a host tells is not taken, and that of a router which is named is",
-                [bodies(ends[HOST]), bodies(ends[NAMED])] == [[], [b"\x64"]])
+                [bodies(ends[HOST]), came] == [[], [b"\x64"]], str(came))
 
 
 def pass_on(sites, ends):
@@ -127,7 +132,7 @@ def speak_openly(sites, ends):
     ends[PEER].sendto(rip_response("00000067", node(PEER), [(0x69, 3, 9)]), port)
     ends[STRANGER].sendto(rip_response("00000067", stranger, [(0x69, 1, 1)]), port)
     ends[STRANGER].sendto(sap_response(stranger, 2, "00000067"), port)
-    time.sleep(0.3)
+    knows(sites, "00000069")
     ends[AWAY].sendto(ipx(4, ("00000069", "000000000001", "4002"), ("00000062", node(AWAY), "4003"), b"\x69"), (FAR, sites.port))
     came = []
     until(lambda: came.extend(bodies(ends[PEER])) or came, 2)
