@@ -7,7 +7,7 @@ use Rattle.ipx_router.specs.declared.port.Port.{Port}
 use Rattle.ipx_config.specs.Checked.{shown_text}
 use Rattle.ipx_table_dump.specs.TableParts.{OwnSpelled, own_networks_read}
 use Rattle.ipx_table_dump.specs.TableRead.{NetworkSpelled, ServiceSpelled, networks_read, services_read}
-use Rattle.ipx_query_cmd.specs.OperatorLines.{AdvertisedNetwork, at_left, at_right, json_byte, network_digits, network_json, network_row, service_head, count_with_noun, type_digits, type_name, type_text, widest}
+use Rattle.ipx_query_cmd.specs.OperatorLines.{AdvertisedNetwork, at_left, at_right, json_byte, network_digits, network_json, network_row, service_head, count_with_noun, type_digits, type_json, type_text, widest}
 
 -- the last line: how many there are, and in which file
 abbrev pub written_in : List ℕ → List ℕ → List ℕ
@@ -98,10 +98,9 @@ known_place_json s =
 
 abbrev pub known_service_json : ServiceSpelled → List ℕ
 known_service_json s =
-    codes "{\"type\":\"" ++ (s.kind ++ (codes "\",\"type_name\":\"" ++ (type_name s.kind
-    ++ (codes "\",\"name\":\"" ++ (flat_map known_json_byte s.name
+    codes "{" ++ (type_json s.kind ++ (codes ",\"name\":\"" ++ (flat_map known_json_byte s.name
     ++ (codes "\"," ++ (known_place_json s ++ (codes ",\"hops\":" ++ (s.hops
-    ++ (codes ",\"by\":\"" ++ (s.next ++ codes "\"}\n")))))))))))
+    ++ (codes ",\"by\":\"" ++ (s.next ++ codes "\"}\n")))))))))
 
 abbrev pub known_services_table : List ℕ → List ServiceSpelled → List ℕ
 known_services_table place services =

@@ -115,6 +115,11 @@ abbrev pub type_text : List ℕ → List ℕ
 type_text digits =
     if length (type_name digits) == 0 then digits else digits ++ (codes " " ++ type_name digits)
 
+-- a type as JSON has it, by its digits
+abbrev pub type_json : List ℕ → List ℕ
+type_json digits =
+    codes "\"type\":\"" ++ (digits ++ (codes "\",\"type_name\":\"" ++ (type_name digits ++ codes "\"")))
+
 -- the width of a column: that of its longest text, and at least four, that of its heading
 abbrev pub widest : {X : Type 0} → (X → List ℕ) → List X → ℕ
 widest text [] = 4
@@ -165,11 +170,10 @@ place_json at =
 
 abbrev pub service_json : AdvertisedService → List ℕ
 service_json told =
-    codes "{\"type\":\"" ++ (type_digits told.0.kind ++ (codes "\",\"type_name\":\""
-    ++ (type_name (type_digits told.0.kind) ++ (codes "\",\"name\":\""
+    codes "{" ++ (type_json (type_digits told.0.kind) ++ (codes ",\"name\":\""
     ++ (json_name told.0.name ++ (codes "\"," ++ (place_json told.2.at ++ (codes ",\"hops\":"
     ++ (decimal told.2.hops ++ (codes ",\"by\":\"" ++ (node_digits told.1.neighbour
-    ++ codes "\"}\n")))))))))))
+    ++ codes "\"}\n")))))))))
 
 abbrev pub services_table : List AdvertisedService → List AnswerTime → List ℕ
 services_table listed answers =

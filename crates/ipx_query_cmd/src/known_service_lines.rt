@@ -4,7 +4,7 @@ ghost use Rattle.std.specs.Prelude.{◌≡◌, ◌==◌, ◌||◌, IfOk, filter,
 ghost use Rattle.std.specs.List.{flat_map};
 ghost use Rattle.std.specs.Str.{bytes_eq};
 ghost use Rattle.ipx_table_dump.specs.TableRead.{service_spelled, services_read};
-ghost use Rattle.ipx_query_cmd.specs.OperatorLines.{type_digits, widest};
+ghost use Rattle.ipx_query_cmd.specs.OperatorLines.{type_digits, type_json, widest};
 ghost use Rattle.ipx_query_cmd.specs.KnownLines.{kind_of_known, known_json_byte, known_place_columns, known_place_json, known_service_json, known_service_row, known_services_table, known_services_text, name_of_known, services_of_type};
 
 use crate::columns::{at_left, at_right, type_to_digits};
@@ -12,7 +12,7 @@ use crate::fault::KnownFault;
 use crate::known_lines::{word_in, written_to_line};
 use crate::last_line::count_to_text;
 use crate::names::json_byte_to_text;
-use crate::service_lines::{HEAD, head_to_line, type_name, type_to_text};
+use crate::service_lines::{HEAD, head_to_line, type_to_json, type_to_text};
 use ipx_table_dump::{ServiceWords, services_of_text};
 use std::alloc::{AllocError, Global};
 
@@ -45,13 +45,29 @@ fn services_of_type<'a>(
     Ok(found)
 }
 
+/// The type of a service, as a table has it.
+fn kind_to_text(alloc: Global, service: &ServiceWords<'_>) -> Result<String, KnownFault>
+    ensures { IfOk result (λ t. string_bytes t ≡ kind_of_known (service_spelled service.now)) }
+{
+    let kind = type_to_text(alloc, word_in(service.kind)?)?;
+    Ok(kind)
+}
+
+/// The type of a service, as JSON has it.
+fn kind_to_json(alloc: Global, service: &ServiceWords<'_>) -> Result<String, KnownFault>
+    ensures { IfOk result (λ t. string_bytes t ≡ type_json (service_spelled service.now).kind) }
+{
+    let kind = type_to_json(alloc, word_in(service.kind)?)?;
+    Ok(kind)
+}
+
 /// The width of the type column.
 fn type_width(alloc: Global, services: &[ServiceWords<'_>]) -> Result<usize, KnownFault>
     ensures { IfOk result (λ w. w ≡ widest kind_of_known (map service_spelled services.now)) }
 {
     let mut width = HEAD;
     for service in services {
-        let kind = type_to_text(alloc, word_in(service.kind)?)?;
+        let kind = kind_to_text(alloc, service)?;
         width = width.max(kind.as_bytes().len());
     }
     Ok(width)
@@ -88,7 +104,7 @@ fn known_to_row(
     ensures { IfOk result (λ t. string_bytes t
         ≡ known_service_row kinds names (service_spelled service.now)) }
 {
-    let kind = type_to_text(alloc, word_in(service.kind)?)?;
+    let kind = kind_to_text(alloc, service)?;
     let kind = at_left(alloc, kinds, &kind)?;
     let name = at_left(alloc, names, word_in(service.name)?)?;
     let place = place_to_columns(alloc, service)?;
@@ -134,14 +150,13 @@ fn place_to_json(alloc: Global, service: &ServiceWords<'_>) -> Result<String, Kn
 fn known_to_json(alloc: Global, service: &ServiceWords<'_>) -> Result<String, KnownFault>
     ensures { IfOk result (λ t. string_bytes t ≡ known_service_json (service_spelled service.now)) }
 {
-    let kind = word_in(service.kind)?;
-    let what = type_name(kind);
+    let kind = kind_to_json(alloc, service)?;
     let name = name_to_json(alloc, service.name)?;
     let place = place_to_json(alloc, service)?;
     let hops = word_in(service.hops)?;
     let by = word_in(service.next)?;
     let line = format!(in alloc;
-        "{{\"type\":\"{kind}\",\"type_name\":\"{what}\",\"name\":\"{name}\",{place},\"hops\":{hops},\"by\":\"{by}\"}}\n"
+        "{{{kind},\"name\":\"{name}\",{place},\"hops\":{hops},\"by\":\"{by}\"}}\n"
     )?;
     Ok(line)
 }

@@ -2,7 +2,7 @@
 
 ghost use Rattle.std.specs.Prelude.{◌≡◌, IfOk, string_bytes};
 ghost use Rattle.std.specs.List.{flat_map};
-ghost use Rattle.ipx_query_cmd.specs.OperatorLines.{kind_of_told, name_of_told, place_columns, place_json, service_head, service_json, service_row, services_table, services_text, type_name, type_text, widest};
+ghost use Rattle.ipx_query_cmd.specs.OperatorLines.{kind_of_told, name_of_told, place_columns, place_json, service_head, service_json, service_row, services_table, services_text, type_digits, type_json, type_name, type_text, widest};
 
 use crate::answer_times::AnswerTime;
 use crate::columns::{
@@ -49,6 +49,22 @@ pub fn type_to_text(alloc: Global, digits: &str) -> Result<String, AllocError>
         return String::from_str(alloc, digits);
     }
     format!(in alloc; "{digits} {name}")
+}
+
+/// A type as JSON has it: its digits, and its name.
+pub fn type_to_json(alloc: Global, digits: &str) -> Result<String, AllocError>
+    ensures { IfOk result (λ t. string_bytes t ≡ type_json digits.now) }
+{
+    let name = type_name(digits);
+    format!(in alloc; "\"type\":\"{digits}\",\"type_name\":\"{name}\"")
+}
+
+/// The type of a service, as JSON has it.
+fn kind_to_json(alloc: Global, told: &AdvertisedService) -> Result<String, AllocError>
+    ensures { IfOk result (λ t. string_bytes t ≡ type_json (type_digits told.now.0.kind)) }
+{
+    let digits = type_to_digits(alloc, told.0.kind)?;
+    type_to_json(alloc, &digits)
 }
 
 /// The type of a service, as a table has it.
@@ -125,14 +141,13 @@ fn service_to_json(alloc: Global, told: &AdvertisedService) -> Result<String, Al
     ensures { IfOk result (λ t. string_bytes t ≡ service_json told.now) }
 {
     let (key, source, metric) = *told;
-    let kind = type_to_digits(alloc, key.kind)?;
-    let what = type_name(&kind);
+    let kind = kind_to_json(alloc, told)?;
     let name = name_to_json(alloc, &key.name)?;
     let place = place_to_json(alloc, metric.at)?;
     let hops = metric.hops;
     let by = node_to_digits(alloc, source.neighbour)?;
     format!(in alloc;
-        "{{\"type\":\"{kind}\",\"type_name\":\"{what}\",\"name\":\"{name}\",{place},\"hops\":{hops},\"by\":\"{by}\"}}\n"
+        "{{{kind},\"name\":\"{name}\",{place},\"hops\":{hops},\"by\":\"{by}\"}}\n"
     )
 }
 
