@@ -29,10 +29,10 @@ returns-clause-known g c =
         refl,
         heard,
         (λ well.
-            let is = sym c.is_err.ensures ∙ well in (
+            let is = sym c.is_err.ensures.value ∙ well in (
               subst (λ (v : RouterView). AreNetworksKnown v now new.networks.items) router (on_well r c.look.ensures.networks is),
               subst (λ (v : RouterView). AreServicesKnown v now new.services.items) router (on_well r c.look.ensures.services is),
             )),
-        λ refused. subst (λ (v : RouterView). LeavesKnown v now old new) router (on_refused r c.look.ensures.refused (sym c.is_err.ensures ∙ refused)),
+        λ refused. subst (λ (v : RouterView). LeavesKnown v now old new) router (on_refused r c.look.ensures.refused (sym c.is_err.ensures.value ∙ refused)),
       ),
     )
