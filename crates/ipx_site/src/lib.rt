@@ -33,7 +33,6 @@ mod routing;
 mod running_router;
 mod secret;
 mod secret_file;
-mod service_name;
 mod source_laws;
 mod starting;
 mod static_laws;
@@ -56,7 +55,6 @@ pub use router_ports::PortIndex;
 pub use router_runs::run_router;
 pub use routing::do_route;
 pub use running_router::RunningRouter;
-pub use service_name::ServiceName;
 pub use source_laws::control_is_of_its_sender;
 pub use starting::start_router;
 pub use static_laws::{

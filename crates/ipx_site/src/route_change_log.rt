@@ -6,7 +6,7 @@ ghost use Rattle.ipx_tables.specs.Listing.{IsListing};
 ghost use Rattle.ipx_site.specs.KnownNow.{AreNetworksKnown, AreServicesKnown, LeavesKnown};
 ghost use Rattle.ipx_site.specs.NewRouters.{HasSeenNothing};
 
-use crate::service_name::ServiceName;
+use ipx_config::Escaped;
 use ipx_router::Router;
 use ipx_sockets::Noun;
 use ipx_tables::{Metric, Offers, RouteMetric, ServiceKey, ServiceMetric, Source};
@@ -72,7 +72,7 @@ impl Told for ServiceKey {
 
     fn tell_known<R: Log>(&self, rt: &R, source: Source, offered: ServiceMetric) {
         let kind = self.kind;
-        let name = ServiceName(&self.name);
+        let name = Escaped(&self.name);
         let network = offered.at.network;
         let node = offered.at.node;
         let socket = offered.at.socket;
@@ -84,7 +84,7 @@ impl Told for ServiceKey {
 
     fn tell_lost<R: Log>(&self, rt: &R) {
         let kind = self.kind;
-        let name = ServiceName(&self.name);
+        let name = Escaped(&self.name);
         info!(rt; target: "ipx", "service lost: {kind:04x} {name}");
     }
 }

@@ -43,8 +43,6 @@ mod refused;
 #[cfg(test)]
 mod refused_device;
 #[cfg(test)]
-mod service_names;
-#[cfg(test)]
 mod sockets;
 #[cfg(test)]
 mod statics;
