@@ -146,9 +146,7 @@ fn service_to_json(alloc: Global, told: &AdvertisedService) -> Result<String, Al
     let place = place_to_json(alloc, metric.at)?;
     let hops = metric.hops;
     let by = node_to_digits(alloc, source.neighbour)?;
-    format!(in alloc;
-        "{{{kind},\"name\":\"{name}\",{place},\"hops\":{hops},\"by\":\"{by}\"}}\n"
-    )
+    format!(in alloc; "{{{kind},\"name\":\"{name}\",{place},\"hops\":{hops},\"by\":\"{by}\"}}\n")
 }
 
 fn services_to_rows(

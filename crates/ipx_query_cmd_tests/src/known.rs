@@ -55,7 +55,8 @@ fn known_services(rt: HostRuntime) {
         0004 file server  HQ-\"FILES  00000a01  000000000001  0451       1  00000a010002\n\
         1 service, by hq.tables\n";
     assert!(rt; is_made(services(rt.alloc(), false, 4), one));
-    let line = "{\"type\":\"0640\",\"type_name\":\"\",\"name\":\"A\\\\x20B\",\"network\":\"00000a02\",\
+    let line =
+        "{\"type\":\"0640\",\"type_name\":\"\",\"name\":\"A\\\\x20B\",\"network\":\"00000a02\",\
         \"node\":\"000000000001\",\"socket\":\"0451\",\"hops\":15,\"by\":\"00000a010002\"}\n";
     assert!(rt; is_made(services(rt.alloc(), true, 0x640), line));
 }

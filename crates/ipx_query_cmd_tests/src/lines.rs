@@ -108,7 +108,8 @@ fn services_as_json(rt: HostRuntime) -> Result<(), Fail> {
     let alloc = rt.alloc();
     let odd = [service(b"A \"\\", 15), service(b"", 2)];
     let text = services_to_text(alloc, true, &odd, &[])?;
-    let wanted = "{\"type\":\"0004\",\"type_name\":\"file server\",\"name\":\"A\\\\x20\\\"\\\\x5c\",\"network\":\"00000a01\",\
+    let wanted =
+        "{\"type\":\"0004\",\"type_name\":\"file server\",\"name\":\"A\\\\x20\\\"\\\\x5c\",\"network\":\"00000a01\",\
         \"node\":\"000000000001\",\"socket\":\"0451\",\"hops\":15,\"by\":\"00000a010001\"}\n\
         {\"type\":\"0004\",\"type_name\":\"file server\",\"name\":\"-\",\"network\":\"00000a01\",\
         \"node\":\"000000000001\",\"socket\":\"0451\",\"hops\":2,\"by\":\"00000a010001\"}\n";
@@ -161,7 +162,8 @@ fn refused_lines_of_services(rt: HostRuntime) -> Result<(), Fail> {
         Ok(text) => text,
         Err(_) => services_to_text(alloc, true, &services[..1], &[])?,
     };
-    let wanted = "{\"type\":\"0004\",\"type_name\":\"file server\",\"name\":\"A\\\\x20B\",\"network\":\"00000a01\",\
+    let wanted =
+        "{\"type\":\"0004\",\"type_name\":\"file server\",\"name\":\"A\\\\x20B\",\"network\":\"00000a01\",\
         \"node\":\"000000000001\",\"socket\":\"0451\",\"hops\":1,\"by\":\"00000a010001\"}\n";
     assert_eq!(rt; text.as_str(), wanted);
     Ok(())
