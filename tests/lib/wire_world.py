@@ -33,8 +33,8 @@ def node_of_place(place):
 class WirePort:
     """A port on a wire, and what is to come of what is sent there: the stations that it knows, what it counts."""
 
-    def __init__(self, network, kind, place, ends, own=None, joined=True, cost=1):
-        self.network, self.kind, self.place, self.joined, self.cost = network, kind, place, joined, cost
+    def __init__(self, network, kind, place, ends, own=None, joined=True, cost=1, keys=""):
+        self.network, self.kind, self.place, self.joined, self.cost, self.keys = network, kind, place, joined, cost, keys
         self.named, self.node = own, own or node_of_place(place)
         self.places = ends
         self.ends, self.known, self.fates = [], {}, collections.Counter()
@@ -43,7 +43,7 @@ class WirePort:
 
     def table(self):
         text = (f'[[port]]\nkind = "ethernet"\nnetwork = "{self.network}"\nencapsulation = "{self.kind}"\naddress = "{self.place[0]}"\n'
-                f"udp_port = {self.place[1]}\ncost = {self.cost}\n" + listed("remotes", map(text_of, self.places)))
+                f"udp_port = {self.place[1]}\ncost = {self.cost}\n{self.keys}" + listed("remotes", map(text_of, self.places)))
         if self.named:
             text += f'node = "{with_colons(self.named)}"\n'
         return text if self.joined else text + "switch = false\n"

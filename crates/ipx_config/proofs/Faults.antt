@@ -4,7 +4,7 @@ use Rattle.toml.specs.Data.{Data, Items, item, Members}
 use Rattle.toml.specs.View.{items_view}
 use Rattle.toml.specs.declared.value.Value.{Value}
 use Rattle.ipx_config.specs.declared.fault.ConfigError.{ConfigError}
-use Rattle.ipx_config.specs.declared.fault.ConfigError.TheVariants.{Again, Missing, NotToml, OtherKind, OutOfMemory, SamePlace, Twin, Unknown, Wrong}
+use Rattle.ipx_config.specs.declared.fault.ConfigError.TheVariants.{Again, Missing, NotToml, OtherKind, OtherTunnel, OutOfMemory, SamePlace, Twin, Unknown, Wrong}
 use Rattle.ipx_config.specs.declared.key.Key.{Key}
 use Rattle.ipx_config.specs.declared.site.PortConfig.{PortConfig}
 use Rattle.ipx_config.specs.declared.key.Key.{Key}
@@ -72,6 +72,7 @@ fault_is IsFault bytes OutOfMemory status fault is = inl is
 fault_is IsFault bytes (NotToml line error) status fault is = inr (is, inr (NotToml line error, fault))
 fault_is IsFault bytes (Unknown table name) status fault is = inr (is, inr (Unknown table name, fault))
 fault_is IsFault bytes (OtherKind table key kind) status fault is = inr (is, inr (OtherKind table key kind, fault))
+fault_is IsFault bytes (OtherTunnel table key) status fault is = inr (is, inr (OtherTunnel table key, fault))
 fault_is IsFault bytes (Missing table key) status fault is = inr (is, inr (Missing table key, fault))
 fault_is IsFault bytes (Wrong table key) status fault is = inr (is, inr (Wrong table key, fault))
 fault_is IsFault bytes (Twin table network earlier) status fault is = inr (is, inr (Twin table network earlier, fault))

@@ -14,3 +14,4 @@ pub mod WrittenStations
 pub mod StationFaults
 pub mod TemporaryNames
 pub mod PeerTexts
+pub mod Tunnels

@@ -40,6 +40,13 @@ use Rattle.ipx_config.specs.Site.{is_any}
 use Rattle.ipx_config.specs.StaticFields.{numbered_port}
 use Rattle.ipx_config.specs.Values.{is_peer}
 use Rattle.ipx_config.specs.EthernetValues.{frame_word, is_same_place, made_station}
+use Rattle.ipx_tunnels.specs.declared.tunnel.Cookie.{Cookie}
+use Rattle.ipx_tunnels.specs.declared.tunnel.Cookie.TheVariants.{Absent, Short, Long}
+use Rattle.ipx_tunnels.specs.declared.tunnel.Session.{Session}
+use Rattle.ipx_tunnels.specs.declared.tunnel.Tunnel.{Tunnel}
+use Rattle.ipx_tunnels.specs.declared.tunnel.Tunnel.TheVariants.{Plain, Vxlan, L2tpv3}
+use Rattle.ipx_tunnels.specs.declared.tunnel.Vni.{Vni}
+use Rattle.ipx_wire.specs.Ipx.{number as number_at}
 use Rattle.ipx_wire.specs.declared.address.Network.{Network}
 use Rattle.ipx_wire.specs.declared.address.Node.{Node}
 
@@ -111,12 +118,38 @@ ethernet_fields_text p =
     codes "cost " ++ (decimal p.cost ++ (codes " remotes" ++ (flat_map ethernet_end_text p.ends.items
     ++ (switch_text p.switched ++ directed_text p.directed))))
 
+-- the number of a VXLAN network
+abbrev pub vni_text : Vni → List ℕ
+vni_text vni = codes " vxlan vni " ++ decimal (number_at 3 0 vni.0)
+
+-- how long a cookie is, after the words that say which one it is, if there is one
+abbrev pub cookie_text : List ℕ → Cookie → List ℕ
+cookie_text which Absent = []
+cookie_text which (Short bytes) = which ++ codes " of 4 bytes"
+cookie_text which (Long bytes) = which ++ codes " of 8 bytes"
+
+-- the words for an L2TPv3 session with the default sublayer
+abbrev pub sublayer_text : Bool → List ℕ
+sublayer_text sublayer = if sublayer then codes " sublayer true" else []
+
+-- the numbers of an L2TPv3 session, how long its cookies are, and whether it has the default sublayer
+abbrev pub session_text : Session → List ℕ
+session_text s =
+    codes " l2tpv3 session " ++ (decimal s.id ++ (codes " peer_session " ++ (decimal s.peer_id
+    ++ (cookie_text (codes " cookie") s.cookie ++ (cookie_text (codes " peer_cookie") s.peer_cookie ++ sublayer_text s.sublayer)))))
+
+-- how a port carries its frames, unless each datagram is a frame
+abbrev pub tunnel_text : Tunnel → List ℕ
+tunnel_text Plain = []
+tunnel_text (Vxlan vni) = vni_text vni
+tunnel_text (L2tpv3 s) = session_text s
+
 -- an Ethernet port with its number
 abbrev pub ethernet_text : ℕ → EthernetPortConfig → List ℕ
 ethernet_text number p =
     codes "port " ++ (decimal number ++ (codes " " ++ (place_text p.network p.node
-    ++ (codes " ethernet " ++ (frame_word p.encapsulation ++ (codes " udp "
-    ++ (reached_text p.address p.udp_port ++ (codes " " ++ ethernet_fields_text p))))))))
+    ++ (codes " ethernet " ++ (frame_word p.encapsulation ++ (tunnel_text p.tunnel ++ (codes " udp "
+    ++ (reached_text p.address p.udp_port ++ (codes " " ++ ethernet_fields_text p)))))))))
 
 -- the places of the routers that a port is joined to, if any
 abbrev pub join_text : List SocketAddrV4 → List ℕ

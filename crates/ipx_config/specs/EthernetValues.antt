@@ -1,5 +1,5 @@
 -- The values of the keys of an Ethernet port. Defined by this project.
-use Rattle.std.specs.Prelude.{Vec, ◌≡◌, ℕ, ◌+◌, ◌*◌, ◌/◌, ◌==◌, ◌≤◌, List, [], ◌∷◌, ◌++◌, Bool, true, not, ◌&&◌, Option, Some, codes, drop, length, nat_eq, slice_index, MatchOption}
+use Rattle.std.specs.Prelude.{Vec, ◌≡◌, ℕ, ◌+◌, ◌*◌, ◌/◌, ◌==◌, ◌≤◌, List, [], ◌∷◌, ◌++◌, Bool, true, not, ◌&&◌, Option, Some, None, ◌⊎◌, codes, drop, length, nat_eq, slice_index, MatchOption}
 use Rattle.std.specs.Cmp.Lexicographic.{pointwise}
 use Rattle.std.specs.Global.{Global}
 use Rattle.std.specs.Int.{w16, to_be_bytes}
@@ -13,9 +13,12 @@ use Rattle.toml.specs.Data.{Data, Items, as_array, as_bool, as_str}
 use Rattle.ipx_ethernet.specs.Frame.{is_group}
 use Rattle.ipx_ethernet.specs.declared.encapsulation.Encapsulation.{Encapsulation}
 use Rattle.ipx_ethernet.specs.declared.encapsulation.Encapsulation.TheVariants.{Raw, Llc, Snap, EthernetII}
+use Rattle.ipx_carrier.specs.Traces.{v4_at}
+use Rattle.ipx_tunnels.specs.declared.tunnel.Tunnel.{Tunnel}
+use Rattle.ipx_tunnels.specs.declared.tunnel.Tunnel.TheVariants.{Plain, Vxlan, L2tpv3}
 use Rattle.ipx_wire.specs.AddressText.{spelled_node}
 use Rattle.ipx_wire.specs.declared.address.Node.{Node}
-use Rattle.ipx_config.specs.Values.{AreEach}
+use Rattle.ipx_config.specs.Values.{AreEach, IsIpAddress}
 
 abbrev pub frame_word : Encapsulation → List ℕ
 frame_word Raw = codes "802.3"
@@ -45,22 +48,57 @@ abbrev pub are_places_distinct : List SocketAddrV4 → Bool
 are_places_distinct [] = true
 are_places_distinct (p ∷ ps) = not (list_any (is_same_place p) ps) && are_places_distinct ps
 
+-- two places have the same IP address
+abbrev pub is_same_ip : SocketAddrV4 → SocketAddrV4 → Bool
+is_same_ip a b = pointwise nat_eq (ipv4_octets (v4_ip b)) (ipv4_octets (v4_ip a))
+
+-- no IP address is listed twice
+abbrev pub are_ips_distinct : List SocketAddrV4 → Bool
+are_ips_distinct [] = true
+are_ips_distinct (p ∷ ps) = not (list_any (is_same_ip p) ps) && are_ips_distinct ps
+
+-- the remotes of a port can be told apart: by their places, in VXLAN by their IP addresses alone
+abbrev pub are_remotes_distinct : Tunnel → List SocketAddrV4 → Bool
+are_remotes_distinct Plain ends = are_places_distinct ends
+are_remotes_distinct (Vxlan vni) ends = are_ips_distinct ends
+are_remotes_distinct (L2tpv3 s) ends = are_places_distinct ends
+
 -- an IP address, a colon and a UDP port, where a remote can be
 abbrev pub WritesPlace : List ℕ → SocketAddrV4 → Type 0
 WritesPlace text p = IsSocketV4Text text p × (is_somewhere p ≡ true)
 
 -- a string that is such a text
-abbrev pub IsEthernetEnd : Data → SocketAddrV4 → Type 0
-IsEthernetEnd d p = (text : List ℕ) × (as_str d ≡ Some text) × WritesPlace text p
+abbrev pub IsPlace : Data → SocketAddrV4 → Type 0
+IsPlace d p = (text : List ℕ) × (as_str d ≡ Some text) × WritesPlace text p
+
+-- a string that is an IP address, for the usual UDP port there, if there is one
+abbrev pub IsUsualPlace : Option ℕ → Data → SocketAddrV4 → Type 0
+IsUsualPlace usual d p = (udp_port : ℕ) × (ip : List ℕ) × (usual ≡ Some udp_port)
+    × IsIpAddress d ip × (p ≡ v4_at ip udp_port)
+
+abbrev pub IsEthernetEnd : Option ℕ → Data → SocketAddrV4 → Type 0
+IsEthernetEnd usual d p = IsPlace d p ⊎ IsUsualPlace usual d p
 
 -- an array of them, 1 to 256
-abbrev pub AreEthernetEnds : Data → Vec SocketAddrV4 Global → Type 0
-AreEthernetEnds d ends = (ds : Items) × (as_array d ≡ Some ds) × AreEach IsEthernetEnd ds ends.items
+abbrev pub AreEthernetEnds : Option ℕ → Data → Vec SocketAddrV4 Global → Type 0
+AreEthernetEnds usual d ends = (ds : Items) × (as_array d ≡ Some ds) × AreEach (IsEthernetEnd usual) ds ends.items
     × (1 ≤ length ends.items) × (length ends.items ≤ 256)
 
--- such an array for a port at this place of its own: each place is listed once, and none of them is its own
-abbrev pub AreRemotesOf : SocketAddrV4 → Data → Vec SocketAddrV4 Global → Type 0
-AreRemotesOf own d ends = AreEthernetEnds d ends × (are_places_distinct (own ∷ ends.items) ≡ true)
+-- the UDP port of a tunnel if a file gives none (IANA)
+abbrev pub usual_udp_port : Tunnel → Option ℕ
+usual_udp_port Plain = None
+usual_udp_port (Vxlan vni) = Some 4789
+usual_udp_port (L2tpv3 s) = Some 1701
+
+-- a port with this tunnel at this place of its own can have these remotes: none of them is its own place, and
+-- they can be told apart
+abbrev pub can_be_remotes : Tunnel → SocketAddrV4 → List SocketAddrV4 → Bool
+can_be_remotes tunnel own ends = not (list_any (is_same_place own) ends) && are_remotes_distinct tunnel ends
+
+-- an array of the remotes of such a port
+abbrev pub AreRemotesOf : Tunnel → SocketAddrV4 → Data → Vec SocketAddrV4 Global → Type 0
+AreRemotesOf tunnel own d ends =
+    AreEthernetEnds (usual_udp_port tunnel) d ends × (can_be_remotes tunnel own ends.items ≡ true)
 
 -- digits in pairs, with a colon before each pair but the first
 abbrev pub with_colons : List ℕ → List ℕ
@@ -94,9 +132,9 @@ made_station ip udp_port = record {
 abbrev pub ReadsPlace : List ℕ → Option SocketAddrV4 → Type 0
 ReadsPlace text found = MatchOption found ((p : SocketAddrV4) → WritesPlace text p → ⊥) (WritesPlace text)
 
-abbrev pub ReadsEthernetEnds : Items → Option (Vec SocketAddrV4 Global) → Type 0
-ReadsEthernetEnds ds found = MatchOption found ((ends : List SocketAddrV4) → AreEach IsEthernetEnd ds ends → ⊥)
-    (λ v. AreEach IsEthernetEnd ds v.items)
+abbrev pub ReadsEthernetEnds : Option ℕ → Items → Option (Vec SocketAddrV4 Global) → Type 0
+ReadsEthernetEnds usual ds found = MatchOption found ((ends : List SocketAddrV4) → AreEach (IsEthernetEnd usual) ds ends → ⊥)
+    (λ v. AreEach (IsEthernetEnd usual) ds v.items)
 
 -- the twelve digits of a text, or that it has none
 abbrev pub ReadsDigits : List ℕ → Option (List ℕ) → Type 0

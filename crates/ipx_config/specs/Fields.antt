@@ -1,5 +1,5 @@
 -- What a key of a table gives, and its faults.
-use Rattle.std.specs.Prelude.{String, string_bytes, ◌≡◌, ◌⊎◌, ◌+◌, ◌==◌, ℕ, List, count_by, find, take, Option, Some, None, Result, MatchOption, MatchResult}
+use Rattle.std.specs.Prelude.{String, string_bytes, ◌≡◌, ◌⊎◌, ◌+◌, ◌==◌, ℕ, List, count_by, find, is_some, take, Option, Some, None, Result, MatchOption, MatchResult}
 use Rattle.std.specs.Global.{Global}
 use Rattle.toml.specs.Data.{Data, Members, get_member}
 use Rattle.toml.specs.Errors.{IsMemory, IsWithin, span_start}
@@ -39,6 +39,10 @@ IsStrayName kind name table f = MatchOption (find (is_text_of name) (keys_of_oth
 abbrev pub IsStray : Kind → Members → ℕ → ConfigError → Type 0
 IsStray kind ms table f =
     (name : List ℕ) × (first_unknown (keys_of_kind kind) ms ≡ Some name) × IsStrayName kind name table f
+
+-- the first of these keys that a table has
+abbrev pub first_present : List Key → Members → Option Key
+first_present keys ms = find (λ key. is_some (get_member (key_text key) ms)) keys
 
 -- a key is absent
 abbrev pub IsMissing : Key → Members → ℕ → ConfigError → Type 0

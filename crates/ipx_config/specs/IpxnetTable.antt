@@ -32,12 +32,12 @@ IsPeersFault accept ms table f = ((accept ≡ Who.Peers) × IsMissing Key.Peers 
 -- the routers whose ipxnet servers are joined with this one: the places in the file, each once, or none
 abbrev pub AreJoinedRouters : Members → Vec SocketAddrV4 Global → Type 0
 AreJoinedRouters ms join = ((get_member (key_text Key.Join) ms ≡ None) × (join.items ≡ []))
-    ⊎ (Holds AreEthernetEnds Key.Join ms join × (are_places_distinct join.items ≡ true))
+    ⊎ (Holds (AreEthernetEnds None) Key.Join ms join × (are_places_distinct join.items ≡ true))
 
 -- the key for them gives no places, or one of them twice
 abbrev pub IsJoinFault : Members → ℕ → ConfigError → Type 0
-IsJoinFault ms table f = IsWrong AreEthernetEnds Key.Join ms table f
-    ⊎ ((f ≡ Wrong table Key.Join) × ((join : Vec SocketAddrV4 Global) × Holds AreEthernetEnds Key.Join ms join
+IsJoinFault ms table f = IsWrong (AreEthernetEnds None) Key.Join ms table f
+    ⊎ ((f ≡ Wrong table Key.Join) × ((join : Vec SocketAddrV4 Global) × Holds (AreEthernetEnds None) Key.Join ms join
     × (are_places_distinct join.items ≡ false)))
 
 -- a table describes an ipxnet port, if its kind is that

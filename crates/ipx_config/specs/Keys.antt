@@ -4,9 +4,11 @@ use Rattle.std.specs.List.{list_any}
 use Rattle.std.specs.Cmp.Lexicographic.{pointwise}
 use Rattle.toml.specs.Data.{Members, no_members, member}
 use Rattle.ipx_config.specs.declared.key.Key.{Key}
-use Rattle.ipx_config.specs.declared.key.Key.TheVariants.{MetricsFile, TablesFile, SecretFile, Port, Network, Address, UdpPort, Cost, Peers, Routers, Accept, Router, Socket, Buffers, Allow, Kind, Encapsulation, Remotes, Node, Switch, Clients, Join, Directed, Route, Service, NextHop, Hops, Ticks, ServiceType, Name, IpxAddress}
+use Rattle.ipx_config.specs.declared.key.Key.TheVariants.{MetricsFile, TablesFile, SecretFile, Port, Network, Address, UdpPort, Cost, Peers, Routers, Accept, Router, Socket, Buffers, Allow, Kind, Encapsulation, Remotes, Node, Switch, Clients, Join, Directed, Tunnel, Vni, Session, PeerSession, Cookie, PeerCookie, Sublayer, Route, Service, NextHop, Hops, Ticks, ServiceType, Name, IpxAddress}
 use Rattle.ipx_config.specs.declared.site.Kind.{Kind as PortKind}
 use Rattle.ipx_config.specs.declared.site.Kind.TheVariants as Of
+use Rattle.ipx_config.specs.declared.tunnel_kind.TunnelKind.{TunnelKind}
+use Rattle.ipx_config.specs.declared.tunnel_kind.TunnelKind.TheVariants as By
 
 -- how a key is written
 abbrev pub key_text : Key → List ℕ
@@ -33,6 +35,13 @@ key_text Switch = codes "switch"
 key_text Clients = codes "clients"
 key_text Join = codes "join"
 key_text Directed = codes "directed"
+key_text Tunnel = codes "tunnel"
+key_text Vni = codes "vni"
+key_text Session = codes "session"
+key_text PeerSession = codes "peer_session"
+key_text Cookie = codes "cookie"
+key_text PeerCookie = codes "peer_cookie"
+key_text Sublayer = codes "sublayer"
 key_text Route = codes "route"
 key_text Service = codes "service"
 key_text NextHop = codes "next_hop"
@@ -62,7 +71,8 @@ port_keys = Kind ∷ Network ∷ Address ∷ UdpPort ∷ Cost ∷ Peers ∷ Rout
 
 abbrev pub ethernet_keys : List Key
 ethernet_keys =
-    Kind ∷ Network ∷ Encapsulation ∷ Address ∷ UdpPort ∷ Cost ∷ Remotes ∷ Node ∷ Switch ∷ Directed ∷ []
+    Kind ∷ Network ∷ Encapsulation ∷ Address ∷ Tunnel ∷ Vni ∷ Session ∷ PeerSession ∷ Cookie ∷ PeerCookie ∷ Sublayer ∷ UdpPort
+    ∷ Cost ∷ Remotes ∷ Node ∷ Switch ∷ Directed ∷ []
 
 abbrev pub ipxnet_keys : List Key
 ipxnet_keys =
@@ -75,9 +85,17 @@ keys_of_kind Of.Ethernet = ethernet_keys
 keys_of_kind Of.Ipxnet = ipxnet_keys
 
 abbrev pub keys_of_other_kinds : PortKind → List Key
-keys_of_other_kinds Of.Rfc1234 = Encapsulation ∷ Remotes ∷ Node ∷ Switch ∷ Clients ∷ Join ∷ []
+keys_of_other_kinds Of.Rfc1234 =
+    Encapsulation ∷ Tunnel ∷ Vni ∷ Session ∷ PeerSession ∷ Cookie ∷ PeerCookie ∷ Sublayer ∷ Remotes ∷ Node ∷ Switch ∷ Clients ∷ Join ∷ []
 keys_of_other_kinds Of.Ethernet = Peers ∷ Routers ∷ Accept ∷ Clients ∷ Join ∷ []
-keys_of_other_kinds Of.Ipxnet = Routers ∷ Encapsulation ∷ Remotes ∷ Switch ∷ []
+keys_of_other_kinds Of.Ipxnet =
+    Routers ∷ Encapsulation ∷ Tunnel ∷ Vni ∷ Session ∷ PeerSession ∷ Cookie ∷ PeerCookie ∷ Sublayer ∷ Remotes ∷ Switch ∷ []
+
+-- the keys of the tunnels that a port does not have, if it has a tunnel of this kind, or none
+abbrev pub keys_of_other_tunnels : Option TunnelKind → List Key
+keys_of_other_tunnels None = Vni ∷ Session ∷ PeerSession ∷ Cookie ∷ PeerCookie ∷ Sublayer ∷ []
+keys_of_other_tunnels (Some By.Vxlan) = Session ∷ PeerSession ∷ Cookie ∷ PeerCookie ∷ Sublayer ∷ []
+keys_of_other_tunnels (Some By.L2tpv3) = Vni ∷ []
 
 abbrev pub site_keys : List Key
 site_keys = MetricsFile ∷ TablesFile ∷ SecretFile ∷ Port ∷ Route ∷ Service ∷ []

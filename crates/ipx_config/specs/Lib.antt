@@ -3,6 +3,8 @@ pub mod Values
 pub mod AllowedPeers
 pub mod Fields
 pub mod EthernetValues
+pub mod TunnelValues
+pub mod TunnelTable
 pub mod Port
 pub mod PortKinds
 pub mod IpxnetPeers

@@ -2,7 +2,7 @@
 use Rattle.std.specs.Prelude.{◌≡◌, ◌≤◌, ◌⊎◌, ℕ, List, IsUtf8, length}
 use Rattle.ipx_config.specs.Values.{Spares}
 use Rattle.ipx_config.specs.declared.fault.ConfigError.{ConfigError}
-use Rattle.ipx_config.specs.declared.fault.ConfigError.TheVariants.{Again, Missing, NotToml, OtherKind, OutOfMemory, SamePlace, Twin, Unknown, Wrong}
+use Rattle.ipx_config.specs.declared.fault.ConfigError.TheVariants.{Again, Missing, NotToml, OtherKind, OtherTunnel, OutOfMemory, SamePlace, Twin, Unknown, Wrong}
 use Rattle.ipx_config.specs.declared.site.RouterConfig.{RouterConfig}
 
 -- the bytes of a file are a text: at most 65,536 of them, in UTF-8
@@ -15,6 +15,7 @@ fault_status OutOfMemory = 1
 fault_status (NotToml line error) = 2
 fault_status (Unknown table name) = 2
 fault_status (OtherKind table key kind) = 2
+fault_status (OtherTunnel table key) = 2
 fault_status (Missing table key) = 2
 fault_status (Wrong table key) = 2
 fault_status (Twin table network earlier) = 2

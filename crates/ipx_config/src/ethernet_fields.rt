@@ -1,6 +1,5 @@
 //! The keys of an Ethernet port's table, with their values.
 
-ghost use Rattle.std.specs.Prelude.{true};
 ghost use Rattle.toml.specs.View.{table_view};
 ghost use Rattle.ipx_config.specs.Fields.{Gives, GivesOr};
 ghost use Rattle.ipx_config.specs.Values.{IsCount};
@@ -12,6 +11,7 @@ use crate::fields::{held, required};
 use crate::key::Key;
 use crate::values::count_of;
 use ipx_ethernet::Encapsulation;
+use ipx_tunnels::Tunnel;
 use ipx_wire::Node;
 use std::alloc::Global;
 use std::net::SocketAddrV4;
@@ -42,16 +42,17 @@ pub fn required_count_in(
     }
 }
 
-/// The remotes of an Ethernet port at its own place.
+/// The remotes of an Ethernet port with a tunnel, at its own place.
 pub fn remotes_in(
     alloc: Global,
     table: &Table,
     number: usize,
+    tunnel: Tunnel,
     own: SocketAddrV4,
 ) -> Result<Vec<SocketAddrV4>, ConfigError>
-    ensures { Gives (AreRemotesOf own) Key.Remotes (table_view table.now) number result }
+    ensures { Gives (AreRemotesOf tunnel own) Key.Remotes (table_view table.now) number result }
 {
-    match remotes_of(alloc, own, required(table, number, Key::Remotes)?)? {
+    match remotes_of(alloc, tunnel, own, required(table, number, Key::Remotes)?)? {
         Some(ends) => Ok(ends),
         None => Err(ConfigError::Wrong(number, Key::Remotes)),
     }
@@ -70,15 +71,15 @@ pub fn station_in(table: &Table, number: usize, made: Node) -> Result<Node, Conf
     }
 }
 
-/// Whether the port switches frames between its remotes. The default is true.
-pub fn switch_in(table: &Table, number: usize) -> Result<bool, ConfigError>
-    ensures { GivesOr IsFlag Key.Switch (table_view table.now) number true result }
+/// True or false, or the default.
+pub fn flag_in(table: &Table, number: usize, key: Key, default: bool) -> Result<bool, ConfigError>
+    ensures { GivesOr IsFlag key (table_view table.now) number default result }
 {
-    let Some(value) = held(table, Key::Switch) else {
-        return Ok(true);
+    let Some(value) = held(table, key) else {
+        return Ok(default);
     };
     match flag_of(value) {
-        Some(joined) => Ok(joined),
-        None => Err(ConfigError::Wrong(number, Key::Switch)),
+        Some(flag) => Ok(flag),
+        None => Err(ConfigError::Wrong(number, key)),
     }
 }

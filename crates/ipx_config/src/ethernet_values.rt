@@ -1,12 +1,16 @@
 //! The values of the keys of an Ethernet port.
 
-ghost use Rattle.std.specs.Prelude.{◌≡◌, ◌∷◌, IfOk};
+ghost use Rattle.std.specs.Prelude.{◌≡◌, IfOk};
+ghost use Rattle.std.specs.List.{list_any};
 ghost use Rattle.toml.specs.View.{items_view, view};
 ghost use Rattle.ipx_config.specs.Fields.{Reads};
-ghost use Rattle.ipx_config.specs.EthernetValues.{AreEthernetEnds, AreRemotesOf, IsEncapsulation, IsFlag, IsStation, IsEthernetEnd, ReadsDigits, ReadsPlace, ReadsStation, ReadsEthernetEnds, are_places_distinct, frame_word, is_somewhere, is_station, made_station};
+ghost use Rattle.ipx_config.specs.EthernetValues.{AreEthernetEnds, AreRemotesOf, IsEncapsulation, IsFlag, IsPlace, IsStation, IsEthernetEnd, IsUsualPlace, ReadsDigits, ReadsPlace, ReadsStation, ReadsEthernetEnds, are_ips_distinct, are_places_distinct, are_remotes_distinct, can_be_remotes, frame_word, is_same_ip, is_somewhere, is_station, made_station, usual_udp_port};
 
 use crate::allowed_peer::MAX_ENTRIES;
+use crate::values::parse_ip_address;
+use ipx_carrier::socket_addr;
 use ipx_ethernet::Encapsulation;
+use ipx_tunnels::Tunnel;
 use ipx_wire::{Node, OutOfMemory};
 use std::alloc::Global;
 use std::net::SocketAddrV4;
@@ -67,20 +71,43 @@ fn place_written(text: &str) -> Option<SocketAddrV4>
     }
 }
 
-/// The place of a remote that a value gives.
-pub(crate) fn end_of(value: &Value) -> Option<SocketAddrV4>
-    ensures { Reads IsEthernetEnd (view value.now) result }
+/// The place that a value gives.
+fn place_of(value: &Value) -> Option<SocketAddrV4>
+    ensures { Reads IsPlace (view value.now) result }
 {
     place_written(value.as_str()?)
 }
 
+/// The place at the usual UDP port whose IP address a value gives.
+fn usual_place_of(usual: Option<u16>, value: &Value) -> Option<SocketAddrV4>
+    ensures { Reads (IsUsualPlace usual) (view value.now) result }
+{
+    let udp_port = usual?;
+    let ip = parse_ip_address(value)?;
+    Some(socket_addr(ip, udp_port))
+}
+
+/// The place of a remote that a value gives. If there is a usual UDP port, an IP address will do.
+pub(crate) fn end_of(usual: Option<u16>, value: &Value) -> Option<SocketAddrV4>
+    ensures { Reads (IsEthernetEnd usual) (view value.now) result }
+{
+    match place_of(value) {
+        Some(place) => Some(place),
+        None => usual_place_of(usual, value),
+    }
+}
+
 /// The places that values give, or None if one of them gives no place.
-fn places_of(alloc: Global, values: &[Value]) -> Result<Option<Vec<SocketAddrV4>>, OutOfMemory>
-    ensures { IfOk result (ReadsEthernetEnds (items_view values.now)) }
+fn places_of(
+    alloc: Global,
+    usual: Option<u16>,
+    values: &[Value],
+) -> Result<Option<Vec<SocketAddrV4>>, OutOfMemory>
+    ensures { IfOk result (ReadsEthernetEnds usual (items_view values.now)) }
 {
     let mut ends = Vec::new(alloc);
     for value in values {
-        let Some(end) = end_of(value) else {
+        let Some(end) = end_of(usual, value) else {
             return Ok(None);
         };
         ends.push(end)?;
@@ -89,8 +116,12 @@ fn places_of(alloc: Global, values: &[Value]) -> Result<Option<Vec<SocketAddrV4>
 }
 
 /// The places that a value lists, 1 to 256.
-pub fn ends_of(alloc: Global, value: &Value) -> Result<Option<Vec<SocketAddrV4>>, OutOfMemory>
-    ensures { IfOk result (Reads AreEthernetEnds (view value.now)) }
+pub fn ends_of(
+    alloc: Global,
+    usual: Option<u16>,
+    value: &Value,
+) -> Result<Option<Vec<SocketAddrV4>>, OutOfMemory>
+    ensures { IfOk result (Reads (AreEthernetEnds usual) (view value.now)) }
 {
     let Some(values) = value.as_array() else {
         return Ok(None);
@@ -99,7 +130,7 @@ pub fn ends_of(alloc: Global, value: &Value) -> Result<Option<Vec<SocketAddrV4>>
     if count == 0 || count > MAX_ENTRIES {
         return Ok(None);
     }
-    places_of(alloc, values)
+    places_of(alloc, usual, values)
 }
 
 /// Whether no place is listed twice.
@@ -114,26 +145,67 @@ pub(crate) fn are_distinct(places: &[SocketAddrV4]) -> bool
     true
 }
 
-/// Whether a port at its own place can have these remotes: each is listed once, and none is the port
-/// itself.
-fn are_others(own: SocketAddrV4, places: &[SocketAddrV4]) -> bool
-    ensures { result ≡ are_places_distinct (own ∷ places.now) }
+/// Whether one of these places has an IP address.
+pub(crate) fn has_ip(places: &[SocketAddrV4], place: &SocketAddrV4) -> bool
+    ensures { result ≡ list_any (is_same_ip place.now) places.now }
 {
-    !places.contains(&own) && are_distinct(places)
+    places.iter().any(|other| other.ip() == place.ip())
 }
 
-/// The remotes that a value lists for a port at its own place.
+/// Whether no IP address is listed twice.
+fn are_ips_distinct(places: &[SocketAddrV4]) -> bool
+    ensures { result ≡ are_ips_distinct places.now }
+{
+    for (index, place) in places.iter().enumerate() {
+        if has_ip(&places[index + 1..], place) {
+            return false;
+        }
+    }
+    true
+}
+
+/// Whether remotes can be told apart. In VXLAN they may send from any UDP port.
+fn are_remotes_distinct(tunnel: Tunnel, places: &[SocketAddrV4]) -> bool
+    ensures { result ≡ are_remotes_distinct tunnel places.now }
+{
+    match tunnel {
+        Tunnel::Plain | Tunnel::L2tpv3(_) => are_distinct(places),
+        Tunnel::Vxlan(_) => are_ips_distinct(places),
+    }
+}
+
+/// Whether a port with a tunnel, at its own place, can have these remotes: they can be told apart,
+/// and none is the port itself.
+fn can_be_remotes(tunnel: Tunnel, own: SocketAddrV4, places: &[SocketAddrV4]) -> bool
+    ensures { result ≡ can_be_remotes tunnel own places.now }
+{
+    !places.contains(&own) && are_remotes_distinct(tunnel, places)
+}
+
+/// The UDP port of a tunnel if a file gives none.
+pub fn usual_udp_port(tunnel: Tunnel) -> Option<u16>
+    ensures { result ≡ usual_udp_port tunnel }
+{
+    match tunnel {
+        Tunnel::Plain => None,
+        Tunnel::Vxlan(_) => Some(4789),
+        Tunnel::L2tpv3(_) => Some(1701),
+    }
+}
+
+/// The remotes that a value lists for a port with a tunnel, at its own place.
 pub fn remotes_of(
     alloc: Global,
+    tunnel: Tunnel,
     own: SocketAddrV4,
     value: &Value,
 ) -> Result<Option<Vec<SocketAddrV4>>, OutOfMemory>
-    ensures { IfOk result (Reads (AreRemotesOf own) (view value.now)) }
+    ensures { IfOk result (Reads (AreRemotesOf tunnel own) (view value.now)) }
 {
-    let Some(ends) = ends_of(alloc, value)? else {
+    let Some(ends) = ends_of(alloc, usual_udp_port(tunnel), value)? else {
         return Ok(None);
     };
-    if are_others(own, &ends) {
+    if can_be_remotes(tunnel, own, &ends) {
         Ok(Some(ends))
     } else {
         Ok(None)

@@ -20,6 +20,8 @@ pub enum ConfigError {
     Unknown(usize, String),
     /// A key of another kind of port: the key, and the kind that this port has.
     OtherKind(usize, Key, Kind),
+    /// A key of a tunnel that this port does not have.
+    OtherTunnel(usize, Key),
     /// A required key is missing.
     Missing(usize, Key),
     /// The value of a key is invalid.

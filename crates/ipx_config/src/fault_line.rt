@@ -2,15 +2,17 @@
 
 use crate::allowed_peer::{MAX_ENTRIES, origin_of};
 use crate::escaped::Escaped;
-use crate::ethernet_values::end_of;
+use crate::ethernet_values::{end_of, usual_udp_port};
 use crate::fault::ConfigError;
 use crate::fields::held;
 use crate::ipxnet_peers::is_peer;
 use crate::key::Key;
 use crate::text::{LAST_PORT, LAST_ROUTE};
 use crate::toml_text::table_of;
-use crate::values::{count_of, parse_ip_address};
+use crate::tunnel_fields::{tunnel_in, udp_port_in};
+use crate::values::parse_ip_address;
 use ipx_carrier::socket_addr;
+use ipx_tunnels::Tunnel;
 use std::alloc::Global;
 use std::fmt;
 use std::net::SocketAddrV4;
@@ -102,6 +104,10 @@ fn is_unquoted(key: Key) -> bool {
             | Key::Hops
             | Key::Ticks
             | Key::Switch
+            | Key::Vni
+            | Key::Session
+            | Key::PeerSession
+            | Key::Sublayer
             | Key::Port
     )
 }
@@ -147,24 +153,55 @@ fn is_in_peers(table: &Table, value: &Value) -> bool {
     peers.is_some_and(|peers| peers.iter().any(|peer| parse_ip_address(peer) == ip))
 }
 
-/// Where the port of a table is bound.
-fn place_of_port(table: &Table) -> Option<SocketAddrV4> {
+/// The tunnel of the port of a table.
+fn tunnel_of_port(table: &Table) -> Tunnel {
+    tunnel_in(table, 0).unwrap_or(Tunnel::Plain)
+}
+
+/// Where the port of a table is bound, if its tunnel has this usual UDP port.
+fn place_of_port(table: &Table, usual: Option<u16>) -> Option<SocketAddrV4> {
     let ip = parse_ip_address(held(table, Key::Address)?)?;
-    let udp_port = count_of(held(table, Key::UdpPort)?, 65535)?;
+    let udp_port = udp_port_in(table, 0, usual).ok()?;
     Some(socket_addr(ip, udp_port))
 }
 
 /// Why an entry of a list of places is wrong, after the `earlier` ones.
-fn place_fault(table: &Table, key: Key, earlier: &[Value], value: &Value) -> Option<&'static str> {
-    let place = end_of(value);
+fn place_fault(usual: Option<u16>, earlier: &[Value], value: &Value) -> Option<&'static str> {
+    let place = end_of(usual, value);
+    if place.is_none() && usual.is_some() {
+        return Some("is no valid IP address or address:port");
+    }
     if place.is_none() {
         return Some("is no valid address:port");
     }
-    if matches!(key, Key::Remotes) && place == place_of_port(table) {
+    if earlier.iter().any(|other| end_of(usual, other) == place) {
+        return Some("is listed twice");
+    }
+    None
+}
+
+/// Whether two values give places with one IP address.
+fn is_same_ip(usual: Option<u16>, one: &Value, other: &Value) -> bool {
+    match (end_of(usual, one), end_of(usual, other)) {
+        (Some(one), Some(other)) => one.ip() == other.ip(),
+        _ => false,
+    }
+}
+
+/// Why a remote is wrong, after the `earlier` ones.
+fn remote_fault(table: &Table, earlier: &[Value], value: &Value) -> Option<&'static str> {
+    let tunnel = tunnel_of_port(table);
+    let usual = usual_udp_port(tunnel);
+    let place = end_of(usual, value);
+    if place.is_some() && place == place_of_port(table, usual) {
         return Some("is the port's own address");
     }
-    if earlier.iter().any(|other| end_of(other) == place) {
-        return Some("is listed twice");
+    if let Some(fault) = place_fault(usual, earlier, value) {
+        return Some(fault);
+    }
+    let is_vxlan = matches!(tunnel, Tunnel::Vxlan(_));
+    if is_vxlan && earlier.iter().any(|other| is_same_ip(usual, other, value)) {
+        return Some("has the IP address of an earlier one");
     }
     None
 }
@@ -182,7 +219,8 @@ fn entry_fault(table: &Table, key: Key, earlier: &[Value], value: &Value) -> Opt
             Some("is no valid IP address")
         }
         Key::Routers if !is_in_peers(table, value) => Some("is not in peers"),
-        Key::Remotes | Key::Join => place_fault(table, key, earlier, value),
+        Key::Remotes => remote_fault(table, earlier, value),
+        Key::Join => place_fault(None, earlier, value),
         Key::Allow if origin_of(value).is_none() => Some("is no valid network"),
         _ => None,
     }

@@ -61,7 +61,7 @@ fn joined_routers_in(
     let Some(value) = held(table, Key::Join) else {
         return Ok(Vec::new(alloc));
     };
-    let Some(routers) = ends_of(alloc, value)? else {
+    let Some(routers) = ends_of(alloc, None, value)? else {
         return Err(ConfigError::Wrong(number, Key::Join));
     };
     if are_distinct(&routers) {

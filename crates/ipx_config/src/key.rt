@@ -1,9 +1,10 @@
 //! The keys of the configuration files.
 
 ghost use Rattle.std.specs.Prelude.{◌≡◌, find, option_copied};
-ghost use Rattle.ipx_config.specs.Keys.{is_key, is_text_of, key_text, keys_of_kind, keys_of_other_kinds};
+ghost use Rattle.ipx_config.specs.Keys.{is_key, is_text_of, key_text, keys_of_kind, keys_of_other_kinds, keys_of_other_tunnels};
 
 use crate::site::Kind;
+use crate::tunnel_kind::TunnelKind;
 
 /// A key of the file of a router or a host.
 #[derive(Clone, Copy)]
@@ -31,6 +32,13 @@ pub enum Key {
     Clients,
     Join,
     Directed,
+    Tunnel,
+    Vni,
+    Session,
+    PeerSession,
+    Cookie,
+    PeerCookie,
+    Sublayer,
     Route,
     Service,
     NextHop,
@@ -70,6 +78,13 @@ impl Key {
             Key::Clients => "clients",
             Key::Join => "join",
             Key::Directed => "directed",
+            Key::Tunnel => "tunnel",
+            Key::Vni => "vni",
+            Key::Session => "session",
+            Key::PeerSession => "peer_session",
+            Key::Cookie => "cookie",
+            Key::PeerCookie => "peer_cookie",
+            Key::Sublayer => "sublayer",
             Key::Route => "route",
             Key::Service => "service",
             Key::NextHop => "next_hop",
@@ -114,11 +129,17 @@ impl Key {
                 "a list of 1 to 256 address:port, each listed once, such as [\"127.0.0.1:24001\"]"
             }
             Key::Node => "the MAC address of one station, such as \"02:00:00:00:00:22\"",
-            Key::Switch => "true or false",
+            Key::Switch | Key::Sublayer => "true or false",
             Key::Clients => "a number from 1 to 150, such as 64",
             Key::Join =>
                 "a list of 1 to 256 address:port, each listed once, such as [\"198.51.100.7:2130\"]",
             Key::Directed => "\"none\", \"few\" or \"all\"",
+            Key::Tunnel => "\"vxlan\" or \"l2tpv3\"",
+            Key::Vni => "a number from 1 to 16777215, such as 42",
+            Key::Session | Key::PeerSession => "a number from 1 to 4294967295, such as 1",
+            Key::Cookie | Key::PeerCookie => {
+                "8 or 16 hex digits, such as \"0123456789abcdef\", or \"\" for no cookie"
+            }
             Key::Route => "at most 256 tables [[route]]",
             Key::Service => "at most 256 tables [[service]]",
             Key::NextHop => {
@@ -156,11 +177,18 @@ const PORT_KEYS: [Key; 9] = [
 ];
 
 /// The keys of an Ethernet port, in the order in which their faults are reported.
-const ETHERNET_KEYS: [Key; 10] = [
+const ETHERNET_KEYS: [Key; 17] = [
     Key::Kind,
     Key::Network,
     Key::Encapsulation,
     Key::Address,
+    Key::Tunnel,
+    Key::Vni,
+    Key::Session,
+    Key::PeerSession,
+    Key::Cookie,
+    Key::PeerCookie,
+    Key::Sublayer,
     Key::UdpPort,
     Key::Cost,
     Key::Remotes,
@@ -186,8 +214,15 @@ const IPXNET_KEYS: [Key; 11] = [
 
 /// The keys of other kinds of ports that an RFC 1234 port does not have. The lists for Ethernet and
 /// ipxnet ports follow.
-const NOT_RFC1234_KEYS: [Key; 6] = [
+const NOT_RFC1234_KEYS: [Key; 13] = [
     Key::Encapsulation,
+    Key::Tunnel,
+    Key::Vni,
+    Key::Session,
+    Key::PeerSession,
+    Key::Cookie,
+    Key::PeerCookie,
+    Key::Sublayer,
     Key::Remotes,
     Key::Node,
     Key::Switch,
@@ -203,7 +238,39 @@ const NOT_ETHERNET_KEYS: [Key; 5] = [
     Key::Join,
 ];
 
-const NOT_IPXNET_KEYS: [Key; 4] = [Key::Routers, Key::Encapsulation, Key::Remotes, Key::Switch];
+const NOT_IPXNET_KEYS: [Key; 11] = [
+    Key::Routers,
+    Key::Encapsulation,
+    Key::Tunnel,
+    Key::Vni,
+    Key::Session,
+    Key::PeerSession,
+    Key::Cookie,
+    Key::PeerCookie,
+    Key::Sublayer,
+    Key::Remotes,
+    Key::Switch,
+];
+
+/// The keys of an L2TPv3 tunnel, of a VXLAN tunnel, and of both.
+const L2TPV3_KEYS: [Key; 5] = [
+    Key::Session,
+    Key::PeerSession,
+    Key::Cookie,
+    Key::PeerCookie,
+    Key::Sublayer,
+];
+
+const VXLAN_KEYS: [Key; 1] = [Key::Vni];
+
+const TUNNEL_KEYS: [Key; 6] = [
+    Key::Vni,
+    Key::Session,
+    Key::PeerSession,
+    Key::Cookie,
+    Key::PeerCookie,
+    Key::Sublayer,
+];
 
 /// The keys of a port of this kind.
 pub fn keys_of_kind(kind: Kind) -> &'static [Key]
@@ -224,6 +291,17 @@ pub fn keys_of_other_kinds(kind: Kind) -> &'static [Key]
         Kind::Rfc1234 => &NOT_RFC1234_KEYS,
         Kind::Ethernet => &NOT_ETHERNET_KEYS,
         Kind::Ipxnet => &NOT_IPXNET_KEYS,
+    }
+}
+
+/// The keys of the tunnels that a port does not have, if it has a tunnel of this kind, or none.
+pub fn keys_of_other_tunnels(kind: Option<TunnelKind>) -> &'static [Key]
+    ensures { result.now ≡ keys_of_other_tunnels kind }
+{
+    match kind {
+        None => &TUNNEL_KEYS,
+        Some(TunnelKind::Vxlan) => &L2TPV3_KEYS,
+        Some(TunnelKind::L2tpv3) => &VXLAN_KEYS,
     }
 }
 

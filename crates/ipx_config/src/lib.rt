@@ -36,6 +36,10 @@ mod statics;
 mod target;
 mod text;
 mod toml_text;
+mod tunnel_fields;
+mod tunnel_kind;
+mod tunnel_lines;
+mod tunnel_values;
 mod values;
 
 pub use allowed_peer::AllowedPeer;

@@ -5,10 +5,8 @@ ghost use Rattle.toml.specs.View.{table_view};
 ghost use Rattle.ipx_config.specs.EthernetTable.{IsEthernetFault, IsEthernetTable, IsKindFault, IsPortOfKind};
 ghost use Rattle.ipx_config.specs.Port.{IsPortTable, IsPortFault};
 
-use crate::ethernet_fields::{
-    encapsulation_in, remotes_in, required_count_in, station_in, switch_in,
-};
-use crate::ethernet_values::station_at;
+use crate::ethernet_fields::{encapsulation_in, flag_in, remotes_in, station_in};
+use crate::ethernet_values::{station_at, usual_udp_port};
 use crate::fault::ConfigError;
 use crate::fields::{
     accept_in, address_in, count_in, directed_in, kind_in, network_in, peers_in, port_routers_in,
@@ -17,6 +15,7 @@ use crate::fields::{
 use crate::ipxnet_fields::ipxnet_port_in;
 use crate::key::Key;
 use crate::site::{EthernetPortConfig, Kind, PortConfig, Rfc1234PortConfig};
+use crate::tunnel_fields::{tunnel_in, udp_port_in};
 use ipx_carrier::{UDP_PORT, socket_addr};
 use std::alloc::Global;
 use toml::Table;
@@ -66,18 +65,20 @@ fn ethernet_port(
     let network = network_in(table, number)?;
     let encapsulation = encapsulation_in(table, number)?;
     let address = address_in(table, number, Key::Address)?;
-    let udp_port = required_count_in(table, number, Key::UdpPort, 65535)?;
+    let tunnel = tunnel_in(table, number)?;
+    let udp_port = udp_port_in(table, number, usual_udp_port(tunnel))?;
     let cost = count_in(table, number, Key::Cost, 65535, 1)?;
     let own = socket_addr(address, udp_port);
-    let ends = remotes_in(alloc, table, number, own)?;
+    let ends = remotes_in(alloc, table, number, tunnel, own)?;
     let made = station_at(address, udp_port);
     let node = station_in(table, number, made)?;
-    let switched = switch_in(table, number)?;
+    let switched = flag_in(table, number, Key::Switch, true)?;
     let directed = directed_in(table, number)?;
     Ok(EthernetPortConfig {
         network,
         encapsulation,
         address,
+        tunnel,
         udp_port,
         cost,
         ends,

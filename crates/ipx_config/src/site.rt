@@ -9,6 +9,7 @@ use crate::statics::StaticEntry;
 use ipx_carrier::{node_of, socket_addr};
 use ipx_ethernet::Encapsulation;
 use ipx_router::Port;
+use ipx_tunnels::Tunnel;
 use ipx_wire::{Network, Node};
 use std::net::SocketAddrV4;
 
@@ -72,6 +73,8 @@ pub struct EthernetPortConfig {
     pub encapsulation: Encapsulation,
     /// The local IP address.
     pub address: [u8; 4],
+    /// How its frames are carried.
+    pub tunnel: Tunnel,
     /// The UDP port there, where frames arrive.
     pub udp_port: u16,
     /// The cost of sending there, in ticks.

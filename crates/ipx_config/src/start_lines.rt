@@ -7,6 +7,7 @@ ghost use Rattle.ipx_config.specs.Checked.{clients_text, dealings_text, directed
 use crate::ethernet_values::word_of;
 use crate::ipxnet_port::IpxnetPortConfig;
 use crate::site::{Accept, Directed, EthernetPortConfig, PortConfig, Rfc1234PortConfig};
+use crate::tunnel_lines::tunnel_to_text;
 use ipx_carrier::node_of;
 use ipx_wire::{Network, Node};
 use std::alloc::{AllocError, Global};
@@ -142,9 +143,10 @@ fn ethernet_to_text(
 {
     let place = place_to_text(alloc, port.network, port.node)?;
     let word = word_of(port.encapsulation);
+    let tunnel = tunnel_to_text(alloc, &port.tunnel)?;
     let reached = reached_to_text(alloc, port.address, port.udp_port)?;
     let fields = ethernet_fields_to_text(alloc, port)?;
-    format!(in alloc; "port {number} {place} ethernet {word} udp {reached} {fields}")
+    format!(in alloc; "port {number} {place} ethernet {word}{tunnel} udp {reached} {fields}")
 }
 
 /// The places of joined routers, if there are any.

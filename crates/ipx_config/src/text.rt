@@ -26,7 +26,8 @@ fn keys_of(table: usize) -> &'static str {
         return "the keys are port, next_hop, network, hops and ticks";
     }
     "the keys are kind, network, address, udp_port, cost, directed, for kind = \"rfc1234\" also peers, \
-        routers and accept, for kind = \"ethernet\" encapsulation, remotes, node and switch, \
+        routers and accept, for kind = \"ethernet\" encapsulation, tunnel, vni, session, peer_session, \
+        cookie, peer_cookie, sublayer, remotes, node and switch, \
         for kind = \"ipxnet\" node, clients, accept, peers and join"
 }
 
@@ -44,7 +45,8 @@ fn keys_of_port(kind: Kind) -> &'static str {
     match kind {
         Kind::Rfc1234 => "kind, network, address, udp_port, cost, peers, routers, accept, directed",
         Kind::Ethernet =>
-            "kind, network, encapsulation, address, udp_port, cost, remotes, node, switch, directed",
+            "kind, network, encapsulation, address, tunnel, vni, session, peer_session, cookie, peer_cookie, sublayer, \
+             udp_port, cost, remotes, node, switch, directed",
         Kind::Ipxnet => {
             "kind, network, address, udp_port, cost, node, clients, accept, peers, join, directed"
         },
@@ -88,6 +90,13 @@ fn place_in_tables(name: &str) -> Option<&'static str> {
         | "cost"
         | "directed"
         | "encapsulation"
+        | "tunnel"
+        | "vni"
+        | "session"
+        | "peer_session"
+        | "cookie"
+        | "peer_cookie"
+        | "sublayer"
         | "remotes"
         | "node"
         | "switch"
@@ -154,8 +163,16 @@ fn right_in(table: usize, key: Key) -> &'static str {
     }
 }
 
+/// The tunnel that has a key.
+fn tunnel_with(key: Key) -> &'static str {
+    match key {
+        Key::Vni => "vxlan",
+        _ => "l2tpv3",
+    }
+}
+
 /// The valid values of a key of a table that is missing there. The UDP port of a port is required
-/// only if its kind is "ethernet".
+/// only if its kind is "ethernet" and it has no tunnel.
 fn right_if_missing(table: usize, key: Key) -> &'static str {
     match (table, key) {
         (1..=LAST_PORT, Key::UdpPort) => "a number from 1 to 65535, such as 24002",
@@ -261,6 +278,10 @@ impl fmt::Display for ConfigError {
                     f,
                     "{key} is not a key of kind \"{word}\": its keys are {keys}"
                 )
+            }
+            ConfigError::OtherTunnel(table, key) => {
+                write_place(f, *table)?;
+                write!(f, "{key} needs tunnel = \"{}\"", tunnel_with(*key))
             }
             ConfigError::Missing(table, key) => {
                 write_place(f, *table)?;

@@ -2,3 +2,4 @@ mod Asked
 pub mod Ends
 pub mod Hubs
 pub mod Staying
+pub mod Arrivals

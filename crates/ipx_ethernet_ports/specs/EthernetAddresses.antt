@@ -1,7 +1,6 @@
--- To which remote a UDP datagram goes, and from which one it comes. Defined by this project: a datagram over
--- IPv6 comes from none.
-use Rattle.std.specs.Prelude.{◌≡◌, ◌⊎◌, ℕ, ℤ, List, Bool, true, false, ◌==◌, ◌&&◌, Option, Some, None, Result, Ok, Err, IfSome, is_some, if◌then◌else◌, length, map, position, slice_get, slice_set}
-use Rattle.std.specs.Option.{option_map}
+-- To which remote a UDP datagram goes and what it carries, and from which one it comes. Defined by this project:
+-- a datagram over IPv6 comes from none.
+use Rattle.std.specs.Prelude.{◌≡◌, ◌⊎◌, ◌<◌, ◌≤◌, ⊤, ℕ, ℤ, List, Bool, true, false, ◌==◌, ◌&&◌, ◌||◌, Option, Some, None, Result, Ok, Err, IfSome, is_some, MatchBool, if◌then◌else◌, length, map, min, nat_lt, position, slice_get, slice_set, take}
 use Rattle.std.specs.Str.{bytes_eq}
 use Rattle.std.specs.Net.Addr.{ipv4_octets}
 use Rattle.std.specs.Net.Socket.{v4_ip, v4_port}
@@ -15,18 +14,40 @@ use Rattle.ipx_carrier.specs.ReadySet.{IsFilteredOrAnswer, is_come, is_port_mark
 use Rattle.ipx_carrier.specs.SocketEvents.{SocketEvent}
 use Rattle.ipx_carrier.specs.Traces.{Got, TriesToReceive, raw_fd_of, refused_to, sent_to}
 use Rattle.ipx_ethernet_ports.specs.declared.end_sockets.FrameCame.{FrameCame}
-use Rattle.ipx_ethernet_ports.specs.declared.sockets.EthernetSocket.{EthernetSocket}
+use Rattle.ipx_ethernet_ports.specs.declared.socket.EthernetSocket.{EthernetSocket}
 use Rattle.ipx_ethernet_ports.specs.declared.sockets.EthernetSockets.{EthernetSockets}
+use Rattle.ipx_ethernet_ports.specs.declared.socket.Arrival.{Arrival}
+use Rattle.ipx_ethernet_ports.specs.declared.socket.Arrival.TheVariants.{Failed, Frame, NoFrame, Nothing, Unknown}
+use Rattle.ipx_ethernet_ports.specs.declared.tunnel_drops.TunnelDrops.{TunnelDrops}
 use Rattle.ipx_ethernet_ports.specs.EndTraffic.{EndFrame}
+use Rattle.ipx_ethernet_ports.specs.TunnelDrops.{drop_counted}
+use Rattle.ipx_tunnels.specs.declared.fault.TunnelFault.{TunnelFault}
+use Rattle.ipx_tunnels.specs.declared.tunnel.Tunnel.{Tunnel}
+use Rattle.ipx_tunnels.specs.declared.tunnel.Tunnel.TheVariants.{L2tpv3, Plain, Vxlan}
+use Rattle.ipx_tunnels.specs.Tunnels.{IsInTunnel, datagram_of}
+use Rattle.ipx_tunnels.specs.TunnelFaults.{tunnel_fault}
 
--- a remote has this address
-abbrev pub is_place : SocketAddr → SocketAddrV4 → Bool
-is_place (V4 a) place = bytes_eq (ipv4_octets (v4_ip place)) (ipv4_octets (v4_ip a)) && v4_port place == v4_port a
-is_place (V6 a) place = false
+-- a datagram is a frame alone
+abbrev pub is_plain : Tunnel → Bool
+is_plain Plain = true
+is_plain (Vxlan vni) = false
+is_plain (L2tpv3 s) = false
+
+-- in VXLAN the IP address alone says which remote sent a datagram: its UDP port may be any (RFC 7348)
+abbrev pub is_any_port : Tunnel → Bool
+is_any_port Plain = false
+is_any_port (Vxlan vni) = true
+is_any_port (L2tpv3 s) = false
+
+-- what a remote at this address sends by the tunnel comes from this address
+abbrev pub is_place : Tunnel → SocketAddr → SocketAddrV4 → Bool
+is_place tunnel (V4 a) place =
+    bytes_eq (ipv4_octets (v4_ip place)) (ipv4_octets (v4_ip a)) && (is_any_port tunnel || v4_port place == v4_port a)
+is_place tunnel (V6 a) place = false
 
 -- the first remote with this address
-abbrev pub end_at_place : SocketAddr → List SocketAddrV4 → Option ℕ
-end_at_place from ends = position (is_place from) ends
+abbrev pub end_at_place : Tunnel → SocketAddr → List SocketAddrV4 → Option ℕ
+end_at_place tunnel from ends = position (is_place tunnel from) ends
 
 -- how many remotes each socket has
 abbrev pub remote_counts : List EthernetSocket → List ℕ
@@ -48,49 +69,114 @@ ethernet_events ethernet = map (λ w. w.socket.events.items) ethernet
 abbrev pub ethernet_fds : List EthernetSocket → List ℤ
 ethernet_fds ethernet = map (λ w. raw_fd_of w.socket) ethernet
 
--- the socket of this port sent these bytes to the address of this remote, or the system refused them; no other
+-- the tunnel of each
+abbrev pub remote_tunnels : List EthernetSocket → List Tunnel
+remote_tunnels ethernet = map (λ w. w.tunnel) ethernet
+
+-- what a socket dropped because it had no frame in the tunnel, if it has one
+abbrev pub tunnel_drops : Option EthernetSocket → Option TunnelDrops
+tunnel_drops None = None
+tunnel_drops (Some w) = if is_plain w.tunnel then None else Some w.drops
+
+-- the size of the buffer in which the datagrams of a tunnel are made and received. A longer one is not sent
+abbrev pub datagram_room : ℕ
+datagram_room = 2048
+
+abbrev pub is_too_long : Tunnel → List ℕ → Bool
+is_too_long tunnel frame = if is_plain tunnel then false else nat_lt datagram_room (length (datagram_of tunnel frame))
+
+-- a socket after it sent a frame by its tunnel, and after it did not: the system refused the datagram, or was
+-- not asked, since that is too long
+abbrev pub frame_sent : Tunnel → SocketAddrV4 → List ℕ → PlacedSocket → PlacedSocket
+frame_sent tunnel to frame socket = sent_to socket to (datagram_of tunnel frame)
+
+abbrev pub frame_refused : Tunnel → SocketAddrV4 → List ℕ → PlacedSocket → PlacedSocket
+frame_refused tunnel to frame socket =
+    if is_too_long tunnel frame then socket else refused_to socket to (datagram_of tunnel frame)
+
+-- the socket of this port sent this frame by its tunnel to the address of this remote, or did not; no other
 -- changed
 abbrev pub SendsFrame : ℕ → ℕ → List ℕ → List EthernetSocket → List EthernetSocket → Type 0
-SendsFrame port end bytes old new = IfSome (slice_get old port) (λ w. IfSome (slice_get w.ends.items end) (λ to.
-    new ≡ slice_set old port (record w { socket = sent_to w.socket to bytes })))
+SendsFrame port end frame old new = IfSome (slice_get old port) (λ w. IfSome (slice_get w.ends.items end) (λ to.
+    new ≡ slice_set old port (record w { socket = frame_sent w.tunnel to frame w.socket })))
 
 abbrev pub RefusesFrame : ℕ → ℕ → List ℕ → List EthernetSocket → List EthernetSocket → Type 0
-RefusesFrame port end bytes old new = IfSome (slice_get old port) (λ w. IfSome (slice_get w.ends.items end) (λ to.
-    new ≡ slice_set old port (record w { socket = refused_to w.socket to bytes })))
+RefusesFrame port end frame old new = IfSome (slice_get old port) (λ w. IfSome (slice_get w.ends.items end) (λ to.
+    new ≡ slice_set old port (record w { socket = frame_refused w.tunnel to frame w.socket })))
 
--- the frame that is handed over, of what a socket with these remotes got: none if an unknown sender sent it
-abbrev pub frame_handed : List SocketAddrV4 → Got → Option FrameCame
-frame_handed ends (Ok (Some came)) = option_map (λ end. record { end = end; size = came.0 }) (end_at_place came.1 ends)
-frame_handed ends (Ok None) = None
-frame_handed ends (Err _) = None
+-- the buffer that a socket receives into: frames that are alone go into the caller's
+abbrev pub IsBufferOf : Tunnel → List ℕ → List ℕ → Type 0
+IsBufferOf tunnel buffer room = MatchBool (is_plain tunnel) (buffer ≡ room) (length buffer ≡ datagram_room)
 
--- the socket of this port was asked and got this, of which it hands over that; no other changed. Each failure
--- was counted
-abbrev pub AsksForFrame : ℕ → Got → List ℕ → Option FrameCame → List EthernetSocket → List EthernetSocket → ℕ → ℕ → Type 0
-AsksForFrame port got room answer old new faults faults_after = IfSome (slice_get old port) (λ w. (after : PlacedSocket)
-    × TriesToReceive got room w.socket after faults faults_after
-    × (new ≡ slice_set old port (record w { socket = after }))
-    × (answer ≡ frame_handed w.ends.items got))
+-- a frame came by the tunnel in a datagram of these bytes. As much of it as fits is at the front of the room
+abbrev pub IsFrameIn : Tunnel → List ℕ → ℕ → List ℕ → Type 0
+IsFrameIn tunnel bytes size room = (frame : List ℕ) × IsInTunnel tunnel bytes frame
+    × (size ≡ min (length frame) (length room)) × (take size room ≡ take size frame)
+
+-- what is handed over of a datagram of these bytes: the frame, if a remote sent it, and it has one
+abbrev pub HandsFrame : Tunnel → List ℕ → List ℕ → Option ℕ → Option TunnelFault → Option FrameCame → Type 0
+HandsFrame tunnel bytes room None fault answer = answer ≡ None
+HandsFrame tunnel bytes room (Some end) (Some fault) answer = answer ≡ None
+HandsFrame tunnel bytes room (Some end) None answer = (size : ℕ) × IsFrameIn tunnel bytes size room
+    × (answer ≡ Some (record { end = end; size = size }))
+
+-- what is handed over of what a socket with this tunnel and these remotes got
+abbrev pub HandsOver : Tunnel → List SocketAddrV4 → Got → List ℕ → List ℕ → Option FrameCame → Type 0
+HandsOver tunnel ends (Ok (Some came)) buffer room answer =
+    HandsFrame tunnel (take came.0 buffer) room (end_at_place tunnel came.1 ends) (tunnel_fault tunnel (take came.0 buffer)) answer
+HandsOver tunnel ends (Ok None) buffer room answer = answer ≡ None
+HandsOver tunnel ends (Err _) buffer room answer = answer ≡ None
+
+-- what is counted then: a datagram of a remote, if it has no frame
+abbrev pub drops_of : SocketAddr → Option ℕ → Option TunnelFault → TunnelDrops → TunnelDrops
+drops_of from None fault drops = drops
+drops_of from (Some end) None drops = drops
+drops_of from (Some end) (Some fault) drops = drop_counted from fault drops
+
+abbrev pub drops_after : Tunnel → List SocketAddrV4 → Got → List ℕ → TunnelDrops → TunnelDrops
+drops_after tunnel ends (Ok (Some came)) buffer drops =
+    drops_of came.1 (end_at_place tunnel came.1 ends) (tunnel_fault tunnel (take came.0 buffer)) drops
+drops_after tunnel ends (Ok None) buffer drops = drops
+drops_after tunnel ends (Err _) buffer drops = drops
 
 -- the address of a sender, if it is of IPv4
 abbrev pub place_of_sender : SocketAddr → Option SocketAddrV4
 place_of_sender (V4 a) = Some a
 place_of_sender (V6 a) = None
 
--- the address from which the last frame came that was not handed over
-abbrev pub last_refused : Got → Bool → Option SocketAddrV4 → Option SocketAddrV4
-last_refused (Ok (Some came)) is_handed last = if is_handed then last else place_of_sender came.1
-last_refused (Ok None) is_handed last = last
-last_refused (Err _) is_handed last = last
+-- the unknown sender of what a socket got, if it is one
+abbrev pub unknown_of : SocketAddr → Option ℕ → Option SocketAddr
+unknown_of from None = Some from
+unknown_of from (Some end) = None
 
--- a marked port was asked, and gave this answer: its socket was. The mark is cleared exactly if nothing waits.
--- What came from an unknown sender is counted, and its address is the last unknown one
+abbrev pub unknown_sender : Tunnel → List SocketAddrV4 → Got → Option SocketAddr
+unknown_sender tunnel ends (Ok (Some came)) = unknown_of came.1 (end_at_place tunnel came.1 ends)
+unknown_sender tunnel ends (Ok None) = None
+unknown_sender tunnel ends (Err _) = None
+
+-- how many unknown senders there were then, and the address of the last one
+abbrev pub unknown_counted : Option SocketAddr → ℕ → ℕ
+unknown_counted None count = count
+unknown_counted (Some from) count = raised count
+
+abbrev pub last_unknown_after : Option SocketAddr → Option SocketAddrV4 → Option SocketAddrV4
+last_unknown_after None last = last
+last_unknown_after (Some from) last = place_of_sender from
+
+-- a marked port was asked, and gave this answer: its socket was, and no other changed. Each failure is counted.
+-- The mark is cleared exactly if nothing waits. What came and is not handed over is counted: what came from an
+-- unknown sender, whose address is the last unknown one, and what a remote sent that has no frame, at the port
 abbrev pub AsksMarkedPort : ℕ → Option FrameCame → List ℕ → EthernetSockets → EthernetSockets → Type 0
-AsksMarkedPort port answer room old new = (got : Got)
-    × AsksForFrame port got room answer old.ethernet.items new.ethernet.items old.faults new.faults
+AsksMarkedPort port answer room old new = IfSome (slice_get old.ethernet.items port) (λ w.
+    (got : Got) × (buffer : List ℕ) × (after : PlacedSocket)
+    × IsBufferOf w.tunnel buffer room
+    × TriesToReceive got buffer w.socket after old.faults new.faults
+    × (new.ethernet.items ≡ slice_set old.ethernet.items port (record w { socket = after; drops = drops_after w.tunnel w.ends.items got buffer w.drops }))
+    × HandsOver w.tunnel w.ends.items got buffer room answer
     × (new.marks ≡ marks_after port got old.marks)
-    × (new.last_unknown ≡ last_refused got (is_some answer) old.last_unknown)
-    × IsFilteredOrAnswer (is_come got) (is_some answer) old.unknown_senders new.unknown_senders
+    × (new.unknown_senders ≡ unknown_counted (unknown_sender w.tunnel w.ends.items got) old.unknown_senders)
+    × (new.last_unknown ≡ last_unknown_after (unknown_sender w.tunnel w.ends.items got) old.last_unknown)
+    × IsFilteredOrAnswer (is_come got) (is_some answer) old.filtered new.filtered)
 
 -- a port was asked, and gave this answer. Without a mark the system is not asked, the answer is None, and
 -- nothing changes. It never fails
@@ -107,13 +193,37 @@ SendsByEthernetSockets old f new = (((new.sent ≡ raised old.sent) × (new.fail
     × SendsFrame f.port f.end f.bytes old.ethernet.items new.ethernet.items)
     ⊎ ((new.sent ≡ old.sent) × (new.failures ≡ raised old.failures)
     × RefusesFrame f.port f.end f.bytes old.ethernet.items new.ethernet.items))
-    × (new.faults ≡ old.faults) × (new.unknown_senders ≡ old.unknown_senders)
+    × (new.faults ≡ old.faults) × (new.filtered ≡ old.filtered) × (new.unknown_senders ≡ old.unknown_senders)
     × (new.last_unknown ≡ old.last_unknown) × (new.marks ≡ old.marks)
 
 -- ---- definitions for the private functions
 
--- what a socket got, its sender, and the remote that this is, if it is one
-abbrev pub with_remote : List SocketAddrV4 → Got → Result (Option (ℕ × SocketAddr × Option ℕ)) DeviceFault
-with_remote ends (Ok (Some came)) = Ok (Some (came.0, came.1, end_at_place came.1 ends))
-with_remote ends (Ok None) = Ok None
-with_remote ends (Err fault) = Err fault
+-- what a socket makes of a datagram of these bytes
+abbrev pub MakesOfDatagram : Tunnel → SocketAddr → List ℕ → List ℕ → Option ℕ → Option TunnelFault → Arrival → Type 0
+MakesOfDatagram tunnel from bytes room None fault arrival = arrival ≡ Unknown from
+MakesOfDatagram tunnel from bytes room (Some end) (Some fault) arrival = arrival ≡ NoFrame
+MakesOfDatagram tunnel from bytes room (Some end) None arrival = (size : ℕ) × IsFrameIn tunnel bytes size room
+    × (arrival ≡ Frame (record { end = end; size = size }))
+
+-- what it makes of what it got
+abbrev pub MakesOf : Tunnel → List SocketAddrV4 → Got → List ℕ → List ℕ → Arrival → Type 0
+MakesOf tunnel ends (Ok (Some came)) buffer room arrival =
+    MakesOfDatagram tunnel came.1 (take came.0 buffer) room (end_at_place tunnel came.1 ends) (tunnel_fault tunnel (take came.0 buffer)) arrival
+MakesOf tunnel ends (Ok None) buffer room arrival = arrival ≡ Nothing
+MakesOf tunnel ends (Err _) buffer room arrival = arrival ≡ Failed
+
+-- it was asked into a buffer of the room's, or of its own. Each failure is counted, and what it drops
+abbrev pub AsksSocket : EthernetSocket → List ℕ → Arrival → EthernetSocket → ℕ → ℕ → Type 0
+AsksSocket old room arrival new faults faults_after = (got : Got) × (buffer : List ℕ) × (after : PlacedSocket)
+    × IsBufferOf old.tunnel buffer room
+    × TriesToReceive got buffer old.socket after faults faults_after
+    × (new ≡ record old { socket = after; drops = drops_after old.tunnel old.ends.items got buffer old.drops })
+    × MakesOf old.tunnel old.ends.items got buffer room arrival
+
+-- a frame is of a remote, and no longer than the room
+abbrev pub IsArrivalWithin : ℕ → ℕ → Arrival → Type 0
+IsArrivalWithin ends size (Frame came) = (came.end < ends) × (came.size ≤ size)
+IsArrivalWithin ends size NoFrame = ⊤
+IsArrivalWithin ends size (Unknown from) = ⊤
+IsArrivalWithin ends size Nothing = ⊤
+IsArrivalWithin ends size Failed = ⊤

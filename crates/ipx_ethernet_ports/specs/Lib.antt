@@ -1,5 +1,6 @@
 pub mod EndTraffic
 pub mod OnEthernet
 pub mod EthernetCalls
+pub mod TunnelDrops
 pub mod EthernetAddresses
 pub mod MemoryTraffic

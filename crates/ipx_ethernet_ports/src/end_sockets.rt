@@ -19,8 +19,8 @@ pub struct FrameCame {
 /// of each, are numbered from 0.
 ///
 /// They count their own failures, and nothing else can raise that count. What was received and sent
-/// is stated only for sockets that record it. A frame from an unknown sender is not handed over,
-/// but counted.
+/// is stated only for sockets that record it. What comes from an unknown sender, or has no frame, is
+/// not handed over, but counted.
 pub trait EndSockets {
     /// How many remotes each port has. No call changes it.
     ghost ends_of: { Self → List ℕ };
@@ -31,7 +31,7 @@ pub trait EndSockets {
     /// What was received and sent so far, if the sockets record that.
     ghost traffic: { Self → Option EndTraffic };
 
-    /// How many frames came from unknown senders. That never falls.
+    /// How many datagrams came that were not handed over. That never falls.
     ghost filtered: { Self → ℕ };
 
     /// Whether something may wait at each port. Sockets that keep no marks say so of each.
@@ -57,8 +57,8 @@ pub trait EndSockets {
     fn failures(&self) -> u64
         ensures { result ≡ failed self.now };
 
-    /// How many frames came from unknown senders.
-    fn unknown_senders(&self) -> u64
+    /// How many datagrams came that were not handed over.
+    fn filtered(&self) -> u64
         ensures { result ≡ filtered self.now };
 
     /// Sends a frame by a port to one of its remotes. If that fails nothing is sent.

@@ -271,11 +271,11 @@ impl<D: EndSockets + Drop> PortDriver for EthernetPorts<D> {
 
 impl<D: EndSockets + Drop> PortDriverFilters for EthernetPorts<D> {
     /// How much of what came the core did not get: frames that the switches kept from it, including
-    /// those that were forwarded, and frames from unknown senders.
+    /// those that were forwarded, and what the sockets did not hand over.
     fn filtered(&self) -> u128
         ensures total { result ≡ self.now.kept + D.filtered self.now.sockets }
         ensures few { result < 2 ^ 65 }
     {
-        u128::from(self.kept) + u128::from(self.sockets.unknown_senders())
+        u128::from(self.kept) + u128::from(self.sockets.filtered())
     }
 }

@@ -9,10 +9,13 @@ mod end_sockets;
 mod ethernet_ports;
 mod memory;
 mod reaching;
+mod socket;
 mod sockets;
 mod taking;
+mod tunnel_drops;
 
 pub use end_sockets::{EndSockets, FrameCame};
 pub use ethernet_ports::EthernetPorts;
 pub use memory::{MemoryEnds, MemoryFrame};
 pub use sockets::EthernetSockets;
+pub use tunnel_drops::{TunnelDrop, TunnelDrops};

@@ -134,7 +134,7 @@ impl EndSockets for MemoryEnds {
         self.failures
     }
 
-    fn unknown_senders(&self) -> u64 {
+    fn filtered(&self) -> u64 {
         self.unknown_senders
     }
 

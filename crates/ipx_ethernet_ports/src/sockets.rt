@@ -1,31 +1,29 @@
-//! UDP sockets for Ethernet ports: each datagram is one Ethernet frame.
+//! UDP sockets for Ethernet ports.
 
 ghost use Rattle.std.specs.Prelude.{◌≡◌, ◌<◌, ◌≤◌, ◌++◌, ◌∷◌, [], IfOk, IfSome, IsSome, None, Ok, OnErr, OnOk, Some, false, is_some, length, slice_get, slice_index, slice_set, true};
-ghost use Rattle.ipx_carrier.specs.declared.placed_socket.PlacedSocket.{PlacedSocket};
 ghost use Rattle.ipx_carrier.specs.Counting.{raised};
 ghost use Rattle.ipx_carrier.specs.Readiness.{AsksPortWithMark};
 ghost use Rattle.ipx_carrier.specs.ReadySet.{is_port_marked};
-ghost use Rattle.ipx_carrier.specs.Traces.{Got, TriesToReceive, refused_to, sent_to};
 ghost use Rattle.ipx_ethernet_ports.specs.EndTraffic.{failures_counted, frame_at};
-ghost use Rattle.ipx_ethernet_ports.specs.EthernetAddresses.{AsksMarkedPort, RefusesFrame, SendsByEthernetSockets, SendsFrame, bound_places, end_at_place, ethernet_events, ethernet_fds, is_place, place_of_sender, remote_counts, remote_places, with_remote};
+ghost use Rattle.ipx_ethernet_ports.specs.EthernetAddresses.{AsksMarkedPort, RefusesFrame, SendsByEthernetSockets, SendsFrame, bound_places, ethernet_events, ethernet_fds, place_of_sender, remote_counts, remote_places, remote_tunnels, tunnel_drops};
 
 use crate::end_sockets::{EndSockets, FrameCame};
+use crate::socket::{Arrival, EthernetSocket};
+use crate::tunnel_drops::TunnelDrops;
 use ipx_carrier::{DeviceFault, PlacedSocket, ReadySet, saturating_increment};
+use ipx_tunnels::Tunnel;
 use std::alloc::Global;
 use std::io;
 use std::io::ErrorKind;
 use std::net::{Net, SocketAddr, SocketAddrV4};
 use std::os::fd::{AsRawFd, RawFd};
 
-/// The socket of a port, and the addresses of its remotes.
-#[derive(Drop)]
-pub struct EthernetSocket {
-    socket: PlacedSocket,
-    ends: Vec<SocketAddrV4>,
-}
-
 /// Sockets that have a UDP socket for each port. Frames are sent to the addresses of its remotes,
-/// and accepted only from these. A frame from elsewhere is not handed over, but counted.
+/// and accepted only from these, each in a datagram of the port's tunnel. A frame from elsewhere is
+/// not handed over, but counted. A datagram of a remote that has no frame is counted at the port.
+///
+/// A remote is an IP address and a UDP port. If the tunnel is VXLAN, what comes from any port of the
+/// IP address is of the remote.
 ///
 /// Which frames arrive depends on the network. What the system doesn't take is a failure of `send`;
 /// `receive` never fails.
@@ -40,6 +38,7 @@ pub struct EthernetSockets {
     sent: u64,
     failures: u64,
     faults: u64,
+    filtered: u64,
     unknown_senders: u64,
     last_unknown: Option<SocketAddrV4>,
 }
@@ -54,72 +53,12 @@ fn place_of_sender(from: SocketAddr) -> Option<SocketAddrV4>
     }
 }
 
-/// Whether a datagram came from this address.
-fn is_at(place: &SocketAddrV4, from: SocketAddr) -> bool
-    ensures { result ≡ is_place from place.now }
-{
-    match from {
-        SocketAddr::V4(from) => *place == from,
-        SocketAddr::V6(_) => false,
-    }
-}
-
-/// The remote from which a datagram came.
-fn end_at(ends: &[SocketAddrV4], from: SocketAddr) -> Option<usize>
-    ensures first { result ≡ end_at_place from ends.now }
-    ensures there { IfSome result (λ end. end < length ends.now) }
-{
-    ends.iter().position(|place| is_at(place, from))
-}
-
-impl EthernetSocket {
-    /// Sends a frame to a remote. The error is the system's, and nothing is then sent.
-    ///
-    /// The remote must exist.
-    fn send(&mut self, end: usize, bytes: &[u8]) -> io::Result<()>
-        requires { end < length self.old.ends.items }
-        ensures sent { OnOk result (IfSome (slice_get self.old.ends.items end) (λ to.
-            self.new ≡ record self.old { socket = sent_to self.old.socket to bytes.now })) }
-        ensures refused { OnErr result (IfSome (slice_get self.old.ends.items end) (λ to.
-            self.new ≡ record self.old { socket = refused_to self.old.socket to bytes.now })) }
-        ensures ends { self.new.ends ≡ self.old.ends }
-    {
-        self.socket.send_to(self.ends[end], bytes)
-    }
-
-    /// Receives a frame, and says its size, its sender, and which remote that is, if it is one.
-    /// `None` means that nothing waits. If the system fails it is asked again, eight times at most,
-    /// and each failure is counted. An error means that it failed each time.
-    fn receive(
-        &mut self,
-        room: &mut [u8],
-        faults: &mut u64,
-    ) -> Result<Option<(usize, SocketAddr, Option<usize>)>, DeviceFault>
-        ensures asks { (got : Got) × (after : PlacedSocket)
-            × TriesToReceive got room.new self.old.socket after faults.old faults.new
-            × (self.new ≡ record self.old { socket = after })
-            × (result ≡ with_remote self.old.ends.items got) }
-        ensures there { IfOk result (λ came. IfSome came (λ c. IfSome c.2 (λ end.
-            end < length self.old.ends.items))) }
-        ensures within { IfOk result (λ came. IfSome came (λ c. c.0 ≤ length room.old)) }
-        ensures room { length room.new ≡ length room.old }
-        ensures faults { faults.old ≤ faults.new }
-        ensures ends { self.new.ends ≡ self.old.ends }
-    {
-        match self.socket.receive_in_tries(room, faults) {
-            Ok(Some((size, from))) => Ok(Some((size, from, end_at(&self.ends, from)))),
-            Ok(None) => Ok(None),
-            Err(fault) => Err(fault),
-        }
-    }
-}
-
 impl EthernetSockets {
     /// Sockets without a port.
     pub fn new(alloc: Global) -> EthernetSockets
         ensures none { (result.ethernet.items ≡ []) × (result.marks ≡ []) }
         ensures fresh { (result.sent ≡ 0) × (result.failures ≡ 0) × (result.faults ≡ 0)
-            × (result.unknown_senders ≡ 0) × (result.last_unknown ≡ None) }
+            × (result.filtered ≡ 0) × (result.unknown_senders ≡ 0) × (result.last_unknown ≡ None) }
     {
         EthernetSockets {
             ethernet: Vec::new(alloc),
@@ -127,18 +66,20 @@ impl EthernetSockets {
             sent: 0,
             failures: 0,
             faults: 0,
+            filtered: 0,
             unknown_senders: 0,
             last_unknown: None,
         }
     }
 
-    /// Binds one more port at an address, with these remotes. The error is the system's or out of
-    /// memory, and the ports are then as before.
+    /// Binds one more port at an address, with these remotes and this tunnel. The error is the
+    /// system's or out of memory, and the ports are then as before.
     pub fn bind<R: Net>(
         &mut self,
         rt: &R,
         at: SocketAddrV4,
         ends: Vec<SocketAddrV4>,
+        tunnel: Tunnel,
     ) -> io::Result<()>
         ensures at { OnOk result (bound_places self.new.ethernet.items
             ≡ bound_places self.old.ethernet.items ++ at ∷ []) }
@@ -146,6 +87,8 @@ impl EthernetSockets {
             ≡ remote_counts self.old.ethernet.items ++ length ends.items ∷ []) }
         ensures places { OnOk result (remote_places self.new.ethernet.items
             ≡ remote_places self.old.ethernet.items ++ ends.items ∷ []) }
+        ensures tunnels { OnOk result (remote_tunnels self.new.ethernet.items
+            ≡ remote_tunnels self.old.ethernet.items ++ tunnel ∷ []) }
         // The new socket was asked nothing, and the others were asked nothing more.
         ensures fresh { OnOk result (ethernet_events self.new.ethernet.items
             ≡ ethernet_events self.old.ethernet.items ++ [] ∷ []) }
@@ -154,7 +97,13 @@ impl EthernetSockets {
             × (self.new.marks ≡ self.old.marks)) }
     {
         let socket = PlacedSocket::bind(rt, at)?;
-        let wire = EthernetSocket { socket, ends };
+        let drops = TunnelDrops::new();
+        let wire = EthernetSocket {
+            socket,
+            ends,
+            tunnel,
+            drops,
+        };
         let count = self.ethernet.len();
         if self.ethernet.push(wire).is_err() {
             return Err(io::Error::from(ErrorKind::OutOfMemory));
@@ -180,6 +129,13 @@ impl EthernetSockets {
         self.faults
     }
 
+    /// How many datagrams came from unknown senders. It stays at the greatest u64.
+    pub fn unknown_senders(&self) -> u64
+        ensures { result ≡ self.now.unknown_senders }
+    {
+        self.unknown_senders
+    }
+
     /// The address of the last unknown sender. None if there was none, or if its frame came over
     /// IPv6.
     pub fn last_unknown(&self) -> Option<SocketAddrV4>
@@ -194,6 +150,23 @@ impl EthernetSockets {
     {
         let wire = self.ethernet.get(port)?;
         Some(wire.socket.as_raw_fd())
+    }
+
+    /// How the frames of a port are carried. The first port is 0.
+    pub fn tunnel(&self, port: usize) -> Option<Tunnel>
+        ensures { result ≡ slice_get (remote_tunnels self.now.ethernet.items) port }
+    {
+        let wire = self.ethernet.get(port)?;
+        Some(wire.tunnel)
+    }
+
+    /// What was dropped at a port because it had no frame in the tunnel. None if the port does not
+    /// exist, or has no tunnel.
+    pub fn tunnel_drops(&self, port: usize) -> Option<TunnelDrops>
+        ensures { result ≡ tunnel_drops (slice_get self.now.ethernet.items port) }
+    {
+        let wire = self.ethernet.get(port)?;
+        wire.tunnel_drops()
     }
 
     /// The marks of the ports, in order.
@@ -223,7 +196,7 @@ impl EndSockets for EthernetSockets {
     // They do not record what passes.
     ghost traffic = { λ s. None };
 
-    ghost filtered = { λ s. s.unknown_senders };
+    ghost filtered = { λ s. s.filtered };
 
     ghost marked = { λ s. is_port_marked s.marks };
 
@@ -243,8 +216,8 @@ impl EndSockets for EthernetSockets {
         self.failures
     }
 
-    fn unknown_senders(&self) -> u64 {
-        self.unknown_senders
+    fn filtered(&self) -> u64 {
+        self.filtered
     }
 
     fn send(&mut self, port: usize, end: usize, bytes: &[u8]) -> Result<(), DeviceFault>
@@ -263,6 +236,7 @@ impl EndSockets for EthernetSockets {
         ensures refused { OnErr result (self.new.sent ≡ self.old.sent) }
         ensures failures { self.new.failures ≡ failures_counted result self.old.failures }
         ensures rest { (self.new.faults ≡ self.old.faults)
+            × (self.new.filtered ≡ self.old.filtered)
             × (self.new.unknown_senders ≡ self.old.unknown_senders)
             × (self.new.last_unknown ≡ self.old.last_unknown) × (self.new.marks ≡ self.old.marks) }
     {
@@ -282,7 +256,8 @@ impl EndSockets for EthernetSockets {
         // The socket of a marked port is asked until something comes or nothing waits, at most
         // eight times. Each failure is counted. The mark is cleared exactly if nothing waits. What
         // came from a remote is returned. What came from an unknown sender is counted, and its
-        // address is the last unknown one.
+        // address is the last unknown one. What a remote sent that has no frame is counted at the
+        // port.
         ensures marked { is_port_marked self.old.marks port ≡ true → IfOk result (λ answer.
             AsksMarkedPort port answer room.new self.old self.new) }
         ensures marks { IfOk result (λ answer. AsksPortWithMark port (is_some answer)
@@ -291,8 +266,8 @@ impl EndSockets for EthernetSockets {
             c.end < slice_index (remote_counts self.old.ethernet.items) port)) }
         ensures within { IfOk result (λ came. IfSome came (λ c. c.size ≤ length room.old)) }
         ensures answered { IfOk result (λ came. IsSome came
-            → self.new.unknown_senders ≡ self.old.unknown_senders) }
-        ensures filtered { self.old.unknown_senders ≤ self.new.unknown_senders }
+            → self.new.filtered ≡ self.old.filtered) }
+        ensures filtered { self.old.filtered ≤ self.new.filtered }
         ensures goes_on { OnErr result ⊥ }
         ensures ends { remote_counts self.new.ethernet.items ≡ remote_counts self.old.ethernet.items }
         ensures faults { self.old.faults ≤ self.new.faults }
@@ -302,17 +277,22 @@ impl EndSockets for EthernetSockets {
             return Ok(None);
         }
         match self.ethernet[port].receive(room, &mut self.faults) {
-            Ok(Some((size, _, Some(end)))) => Ok(Some(FrameCame { end, size })),
-            Ok(Some((_, from, None))) => {
+            Arrival::Frame(came) => Ok(Some(came)),
+            Arrival::NoFrame => {
+                saturating_increment(&mut self.filtered);
+                Ok(None)
+            }
+            Arrival::Unknown(from) => {
+                saturating_increment(&mut self.filtered);
                 saturating_increment(&mut self.unknown_senders);
                 self.last_unknown = place_of_sender(from);
                 Ok(None)
             }
-            Ok(None) => {
+            Arrival::Nothing => {
                 self.marks.clear_ready(port);
                 Ok(None)
             }
-            Err(_) => Ok(None),
+            Arrival::Failed => Ok(None),
         }
     }
 }

@@ -1,6 +1,6 @@
 //! What the core gets of a frame that came from a remote.
 
-ghost use Rattle.std.specs.Prelude.{◌≡◌, ◌≤◌, IfSome, None, false, length, take};
+ghost use Rattle.std.specs.Prelude.{◌≡◌, ◌≤◌, IfSome, None, false, length, min, take};
 ghost use Rattle.ipx_ethernet.specs.Heard.{way_after};
 ghost use Rattle.ipx_ethernet.specs.SwitchEnds.{is_way_to};
 ghost use Rattle.ipx_ethernet_ports.specs.OnEthernet.{TakesPacket};
@@ -10,7 +10,10 @@ use ipx_ethernet::{Egress, Switch};
 /// Puts bytes at the front of a buffer, as many as fit.
 pub fn put_front(bytes: &[u8], room: &mut [u8]) -> usize
     ensures put { take result room.new ≡ take (length room.old) bytes.now }
+    ensures front { take result room.new ≡ take result bytes.now }
+    ensures count { result ≡ min (length bytes.now) (length room.old) }
     ensures within { result ≤ length room.old }
+    ensures room { length room.new ≡ length room.old }
 {
     let count = bytes.len().min(room.len());
     room[..count].copy_from_slice(&bytes[..count]);

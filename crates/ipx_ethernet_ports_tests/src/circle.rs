@@ -104,7 +104,7 @@ fn a_frame_of_no_end(rt: HostRuntime) -> Result<(), Fail> {
     assert!(rt; matches!(ethernet.receive(0, &mut room), Ok(None)));
     assert_eq!(rt; room, [0xaa; 1536]);
     assert_eq!(rt; ethernet.filtered(), 1);
-    assert_eq!(rt; ethernet.sockets().unknown_senders(), 1);
+    assert_eq!(rt; ethernet.sockets().filtered(), 1);
     assert_eq!(rt; ethernet.sockets().went().len(), 0);
     assert_eq!(rt; ethernet.switches()[0].stations().len(), 0);
     Ok(())

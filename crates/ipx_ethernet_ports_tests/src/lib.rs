@@ -14,3 +14,5 @@ mod running;
 mod sending;
 #[cfg(test)]
 mod sockets;
+#[cfg(test)]
+mod tunnels;

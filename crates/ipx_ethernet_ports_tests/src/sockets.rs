@@ -3,6 +3,7 @@
 use crate::fixture::{FIRST, PACKET, PORT, SECOND, ethernet, frame};
 use ipx_carrier::{DeviceFault, PacketSent, PortDriver, PortDriverFilters};
 use ipx_ethernet_ports::{EndSockets, EthernetPorts, EthernetSockets, FrameCame};
+use ipx_tunnels::Tunnel;
 use ipx_wire::Node;
 use std::alloc::Global;
 use std::io;
@@ -24,7 +25,7 @@ fn bound<R: Net>(
 ) -> io::Result<EthernetSockets> {
     let mut sockets = EthernetSockets::new(alloc);
     let ends = ends.to_vec(alloc)?;
-    sockets.bind(rt, at, ends)?;
+    sockets.bind(rt, at, ends, Tunnel::Plain)?;
     Ok(sockets)
 }
 
@@ -136,7 +137,11 @@ fn a_place_in_use_is_refused(rt: HostRuntime) -> Result<(), Fail> {
     let alloc = rt.alloc();
     let mut sockets = bound(&rt, alloc, place(20_926), &[])?;
     let ends = Vec::new(alloc);
-    assert!(rt; sockets.bind(&rt, place(20_926), ends).is_err());
+    assert!(rt;
+        sockets
+            .bind(&rt, place(20_926), ends, Tunnel::Plain)
+            .is_err()
+    );
     assert_eq!(rt; sockets.ports(), 1);
     assert!(rt; sockets.descriptor(0).is_some());
     assert!(rt; sockets.descriptor(1).is_none());

@@ -37,4 +37,6 @@ mod switch_sending;
 #[cfg(test)]
 mod texts;
 #[cfg(test)]
+mod tunnels;
+#[cfg(test)]
 mod wires;

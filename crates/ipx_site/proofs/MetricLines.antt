@@ -201,13 +201,14 @@ families_more start old new before more was is =
     is ∙ ap (λ t. t ++ families_text more) was ∙ append_assoc start (families_text before) (families_text more)
     ∙ ap (λ t. start ++ t) (sym (flat_map-append family_lines before more))
 
--- six lists of families, one after the other
-pub six_lists : (one two three four five six : List ℕ) (a b c d e f : List MetricFamily) → one ≡ families_text a → two ≡ one ++ families_text b
+-- seven lists of families, one after the other
+pub seven_lists : (one two three four five six seven : List ℕ) (a b c d e f g : List MetricFamily) → one ≡ families_text a → two ≡ one ++ families_text b
     → three ≡ two ++ families_text c → four ≡ three ++ families_text d → five ≡ four ++ families_text e → six ≡ five ++ families_text f
-    → six ≡ families_text (a ++ (b ++ (c ++ (d ++ (e ++ f)))))
-six_lists one two three four five six a b c d e f is-a is-b is-c is-d is-e is-f =
-    families_more [] one six a (b ++ (c ++ (d ++ (e ++ f)))) is-a (families_more one two six b (c ++ (d ++ (e ++ f))) is-b (families_more two three six c (d ++ (e ++ f)) is-c
-    (families_more three four six d (e ++ f) is-d (families_more four five six e f is-e is-f))))
+    → seven ≡ six ++ families_text g → seven ≡ families_text (a ++ (b ++ (c ++ (d ++ (e ++ (f ++ g))))))
+seven_lists one two three four five six seven a b c d e f g is-a is-b is-c is-d is-e is-f is-g =
+    families_more [] one seven a (b ++ (c ++ (d ++ (e ++ (f ++ g))))) is-a (families_more one two seven b (c ++ (d ++ (e ++ (f ++ g)))) is-b
+    (families_more two three seven c (d ++ (e ++ (f ++ g))) is-c (families_more three four seven d (e ++ (f ++ g)) is-d
+    (families_more four five seven e (f ++ g) is-e (families_more five six seven f g is-f is-g)))))
 
 -- what follows from what holds if there was memory
 pub then_ok : {A E P Q : Type 0} (r : Result A E) → (P → Q) → OnOk r P → OnOk r Q

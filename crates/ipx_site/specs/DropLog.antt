@@ -1,5 +1,5 @@
 -- When a router logs what it dropped, and which lines are warnings. Defined by this project.
-use Rattle.std.specs.Prelude.{◌≡◌, ℕ, Bool, true, false, not, ◌==◌, ◌&&◌, Option, Some, None}
+use Rattle.std.specs.Prelude.{◌≡◌, ℕ, List, Bool, true, false, not, ◌==◌, ◌&&◌, Option, Some, None, replicate}
 use Rattle.ipx_wire.specs.Assigned.{rip_socket, sap_socket}
 use Rattle.ipx_wire.specs.declared.address.Address.{Address}
 use Rattle.ipx_router.specs.Classify.{is_node}
@@ -10,7 +10,7 @@ use Rattle.ipx_source_checks.specs.declared.drops.SourceDrops.{SourceDrops}
 use Rattle.ipx_site.specs.declared.drop_log.DropLog.{DropLog}
 use Rattle.ipx_site.specs.declared.drop_log.DropReason.{DropReason}
 use Rattle.ipx_site.specs.declared.drop_log.DropReason.TheVariants.{Bad, NotOurs, NoRoute, HopLimit, BadControl, ForwardedControl, GroupSource, LoopedSource}
-use Rattle.ipx_sockets.specs.Moments.{IsLoggedIfDue, never_logged}
+use Rattle.ipx_sockets.specs.Moments.{AreLoggedIfDue, IsLoggedIfDue, never_logged}
 
 -- nothing has been logged
 abbrev pub no_drops_logged : DropLog
@@ -23,10 +23,11 @@ no_drops_logged = record {
   forwarded_control = never_logged;
   group_source = never_logged;
   looped_source = never_logged;
+  tunnels = record { ports = replicate 16 never_logged };
 }
 
--- the drops of each of eight reasons are logged exactly if they are due
-pub record AreDropsLogged (outcomes : OutcomeCounters) (source : SourceDrops) (now : ℕ) (old new : DropLog) : Type 0 where
+-- the drops of each of eight reasons, and those at the tunnel of each port, are logged exactly if they are due
+pub record AreDropsLogged (outcomes : OutcomeCounters) (source : SourceDrops) (tunnels : List ℕ) (now : ℕ) (old new : DropLog) : Type 0 where
   pub bad : IsLoggedIfDue outcomes.bad now old.bad new.bad
   pub not_ours : IsLoggedIfDue outcomes.not_ours now old.not_ours new.not_ours
   pub no_route : IsLoggedIfDue outcomes.no_route now old.no_route new.no_route
@@ -36,6 +37,7 @@ pub record AreDropsLogged (outcomes : OutcomeCounters) (source : SourceDrops) (n
       IsLoggedIfDue source.forwarded_control.count now old.forwarded_control new.forwarded_control
   pub group_source : IsLoggedIfDue source.group_source.count now old.group_source new.group_source
   pub looped_source : IsLoggedIfDue source.looped_source.count now old.looped_source new.looped_source
+  pub at_tunnels : AreLoggedIfDue tunnels now old.tunnels.ports new.tunnels.ports
 
 -- the last datagram of a reason was for all nodes of a network, to a socket other than those of RIP and SAP,
 -- which routers hear

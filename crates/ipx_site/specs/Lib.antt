@@ -8,6 +8,8 @@ pub mod RouterRounds
 pub mod AccessListMetrics
 pub mod StaticNeighbours
 pub mod StaticsHold
+pub mod TunnelFamilies
+pub mod TunnelLog
 pub mod DropLog
 pub mod RouterMetrics
 pub mod Registering

@@ -13,6 +13,7 @@ use Rattle.ipx_site.specs.MetricsPage.{IsMetricsPage, PageFigures}
 use Rattle.ipx_site.specs.PortsView.{SitePortsRun}
 use Rattle.ipx_site.specs.RouterMetrics.{AreMetrics}
 use Rattle.ipx_site.specs.SiteCore.{SiteCore}
+use Rattle.ipx_site.specs.TunnelFamilies.{tunnel_ports}
 use Rattle.ipx_site.specs.declared.route_change_log.RouteChangeLog.{RouteChangeLog}
 use Rattle.ipx_site.specs.declared.router_counts.RouterCounts.{RouterCounts}
 
@@ -28,6 +29,7 @@ pub record IsMetricsFile {gd : OfDevice.Ghosts (SourceFilter UdpSockets)} {ge : 
   pub port_indices : page.port_indices ≡ ports.port_indices.items
   pub filtered : page.filtered ≡ ports.datagrams.device.port_counters
   pub ethernet : page.ethernet.ports.items ≡ ethernet_ports ports.ethernet.switches.items ports.port_indices.items
+  pub tunnels : page.tunnels ≡ tunnel_ports ports.ethernet.sockets.ethernet.items ports.port_indices.items
   pub frames_unknown : page.ethernet.unknown_senders ≡ ports.ethernet.sockets.unknown_senders
   pub frames_sent : page.ethernet.sent ≡ ports.ethernet.sockets.sent
   pub ipxnet : page.ipxnet.ports.items ≡ ipxnet_ports ports.servers.servers.items ports.port_indices.items

@@ -20,8 +20,8 @@ SitePortsRun gd ge gl = RouterPorts (SourceFilter UdpSockets) EthernetSockets Se
 abbrev pub ways_in : {gd : OfDevice.Ghosts (SourceFilter UdpSockets)} {ge : OfSockets.Ghosts EthernetSockets} {gl : OfPlaces.Ghosts ServerSockets} → SitePortsRun gd ge gl → Ways PortCopy
 ways_in r = by_kind (peers_of r.datagrams.peers.items) (map (λ h. h.port) r.ethernet.switches.items) r.port_indices.items
 
--- what access lists dropped, frames that a switch dropped and those from no remote, what ipxnet servers
--- dropped, and what came to them from unknown places
+-- what access lists dropped, frames that a switch dropped, datagrams from no remote or without a frame in the
+-- tunnel, what ipxnet servers dropped, and what came to them from unknown places
 abbrev pub filtered_in_ports : {gd : OfDevice.Ghosts (SourceFilter UdpSockets)} {ge : OfSockets.Ghosts EthernetSockets} {gl : OfPlaces.Ghosts ServerSockets} → SitePortsRun gd ge gl → ℕ
-filtered_in_ports r = drops_in r.datagrams.device.kept + (r.ethernet.kept + r.ethernet.sockets.unknown_senders)
+filtered_in_ports r = drops_in r.datagrams.device.kept + (r.ethernet.kept + r.ethernet.sockets.filtered)
     + (r.servers.kept + r.servers.sockets.nowhere)

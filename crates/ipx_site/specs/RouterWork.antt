@@ -15,6 +15,7 @@ use Rattle.ipx_site.specs.PortsView.{SitePortsRun}
 use Rattle.ipx_site.specs.RouterMetrics.{with_batch}
 use Rattle.ipx_site.specs.RouterRounds.{AsksAgain}
 use Rattle.ipx_site.specs.SiteCore.{SiteCore}
+use Rattle.ipx_site.specs.TunnelLog.{drop_counts}
 use Rattle.ipx_site.specs.WorkRefusals.{DoesUnless, IsDoneIfDue, Refusals, WorkNotes, with_refusals}
 use Rattle.ipx_site.specs.declared.running_router.RunningRouter.{RunningRouter}
 
@@ -46,5 +47,6 @@ pub record WorksInRound {gd : OfDevice.Ghosts (SourceFilter UdpSockets)} {ge : O
   pub totals : after.totals ≡ with_batch b (with_refusals refused before.totals)
   pub warns : AreLoggedIfDue (counts_to_log (happened (with_refusals refused before.totals) mid ports)) now
       before.warnings.causes after.warnings.causes
-  pub logs : AreDropsLogged mid.core.core.core.outcomes mid.drops now before.drops after.drops
+  pub logs : AreDropsLogged mid.core.core.core.outcomes mid.drops (drop_counts ports.ethernet.sockets.ethernet.items ports.port_indices.items)
+      now before.drops after.drops
   pub writes : IsDoneIfDue 10000 now before.written after.written

@@ -2,8 +2,11 @@
 
 ghost use Rattle.std.specs.Prelude.{◌≡◌};
 ghost use Rattle.ipx_site.specs.DropLog.{AreDropsLogged, AreRouterDropsLogged, AreSourceDropsLogged, is_for_all_nodes, is_of_all_nodes, no_drops_logged, warns_of};
+ghost use Rattle.ipx_site.specs.TunnelLog.{drop_counts};
 ghost use Rattle.ipx_sockets.specs.Moments.{IsLoggedIfDue};
 
+use crate::router_ports::UdpRouterPorts;
+use crate::tunnel_log::TunnelLog;
 use ipx_carrier::OutcomeCounters;
 use ipx_config::is_same_node;
 use ipx_metrics::{LastDrop, LastDrops};
@@ -36,7 +39,7 @@ pub struct DropSummary {
     pub network: Option<Network>,
 }
 
-/// When a router last logged its drops, for each of eight reasons.
+/// When a router last logged its drops, for each of eight reasons, and for the tunnel of each port.
 #[derive(Clone, Copy)]
 pub struct DropLog {
     bad: ThrottledLog,
@@ -47,6 +50,7 @@ pub struct DropLog {
     forwarded_control: ThrottledLog,
     group_source: ThrottledLog,
     looped_source: ThrottledLog,
+    tunnels: TunnelLog,
 }
 
 /// Writes that a packet claims to come from the network that it is for. Usually its sender has
@@ -187,23 +191,28 @@ impl DropLog {
             forwarded_control: ThrottledLog::new(),
             group_source: ThrottledLog::new(),
             looped_source: ThrottledLog::new(),
+            tunnels: TunnelLog::new(),
         }
     }
 
-    /// Logs the reasons that are due: what the router dropped, and what failed a source check
-    /// before it.
+    /// Logs the reasons that are due: what the router dropped, what failed a source check before
+    /// it, and what had no frame in the tunnel of its port.
     pub fn tell<R: Log>(
         &mut self,
         rt: &R,
         outcomes: &OutcomeCounters,
         last: LastDrops,
         source: SourceDrops,
+        ports: &UdpRouterPorts,
         now: u64,
     )
-        ensures { AreDropsLogged outcomes.now source now self.old self.new }
+        ensures { AreDropsLogged outcomes.now source
+            (drop_counts ports.now.ethernet.sockets.ethernet.items ports.now.port_indices.items)
+            now self.old self.new }
     {
         self.tell_router_drops(rt, outcomes, last, now);
         self.tell_source_drops(rt, source, now);
+        self.tunnels.tell(rt, ports, now);
     }
 
     fn tell_router_drops<R: Log>(

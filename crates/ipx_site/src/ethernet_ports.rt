@@ -4,7 +4,7 @@ ghost use Rattle.std.specs.Prelude.{◌≡◌, ◌++◌, ◌∷◌, [], IfOk, On
 ghost use Rattle.ipx_config.specs.PortLists.{end_places, ethernet_places, ethernet_ports};
 ghost use Rattle.ipx_site.specs.KindPorts.{switch_of, ethernet_port_of};
 ghost use Rattle.ipx_carrier.specs.Traces.{v4_at};
-ghost use Rattle.ipx_ethernet_ports.specs.EthernetAddresses.{bound_places, ethernet_events, remote_places};
+ghost use Rattle.ipx_ethernet_ports.specs.EthernetAddresses.{bound_places, ethernet_events, remote_places, remote_tunnels};
 
 use ipx_carrier::socket_addr;
 use ipx_config::{EthernetPortConfig, PortConfig};
@@ -52,6 +52,8 @@ fn bind_ethernet_port<R: Net>(
         ≡ bound_places sockets.old.ethernet.items ++ v4_at port.now.address port.now.udp_port ∷ []) }
     ensures ends { OnOk result (remote_places sockets.new.ethernet.items
         ≡ remote_places sockets.old.ethernet.items ++ port.now.ends.items ∷ []) }
+    ensures tunnels { OnOk result (remote_tunnels sockets.new.ethernet.items
+        ≡ remote_tunnels sockets.old.ethernet.items ++ port.now.tunnel ∷ []) }
     ensures fresh { OnOk result (ethernet_events sockets.new.ethernet.items
         ≡ ethernet_events sockets.old.ethernet.items ++ [] ∷ []) }
     ensures marks { OnOk result (sockets.new.marks ≡ sockets.old.marks ++ true ∷ []) }
@@ -60,7 +62,7 @@ fn bind_ethernet_port<R: Net>(
         return Err(BindFault::OutOfMemory);
     };
     let at = socket_addr(port.address, port.udp_port);
-    match sockets.bind(rt, at, ends) {
+    match sockets.bind(rt, at, ends, port.tunnel) {
         Ok(()) => Ok(()),
         Err(error) if error.kind() == ErrorKind::OutOfMemory => Err(BindFault::OutOfMemory),
         Err(error) => {
@@ -81,6 +83,8 @@ fn bind_ethernet_ports<R: Net>(
         bound_places s.ethernet.items ≡ ethernet_places (ethernet_ports ports.now)) }
     ensures ends { IfOk result (λ s.
         remote_places s.ethernet.items ≡ end_places (ethernet_ports ports.now)) }
+    ensures tunnels { IfOk result (λ s.
+        remote_tunnels s.ethernet.items ≡ map (λ p. p.tunnel) (ethernet_ports ports.now)) }
     ensures fresh { IfOk result (λ s.
         ethernet_events s.ethernet.items ≡ map (λ p. []) (ethernet_ports ports.now)) }
     ensures marks { IfOk result (λ s. s.marks ≡ map (λ p. true) (ethernet_ports ports.now)) }
@@ -105,6 +109,8 @@ pub fn ethernet_ports_of<R: Net>(
         bound_places w.sockets.ethernet.items ≡ ethernet_places (ethernet_ports ports.now)) }
     ensures ends { IfOk result (λ w.
         remote_places w.sockets.ethernet.items ≡ end_places (ethernet_ports ports.now)) }
+    ensures tunnels { IfOk result (λ w.
+        remote_tunnels w.sockets.ethernet.items ≡ map (λ p. p.tunnel) (ethernet_ports ports.now)) }
     // No socket was asked anything yet.
     ensures fresh { IfOk result (λ w.
         ethernet_events w.sockets.ethernet.items ≡ map (λ p. []) (ethernet_ports ports.now)) }

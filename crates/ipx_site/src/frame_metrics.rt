@@ -10,7 +10,6 @@ use crate::ethernet_totals::came_in;
 use crate::family::{Family, put_each_of_port, put_family, put_of_port, put_one};
 use crate::router_ports::{PortIndex, UdpRouterPorts};
 use ipx_ethernet::{Encapsulation, FrameCounters, Switch};
-use ipx_ethernet_ports::EndSockets;
 use log::{Log, warn};
 use std::alloc::{AllocError, Global};
 

@@ -37,6 +37,8 @@ mod source_laws;
 mod starting;
 mod static_laws;
 mod static_neighbours;
+mod tunnel_log;
+mod tunnel_metrics;
 mod warnings;
 mod written_files;
 
@@ -62,4 +64,6 @@ pub use static_laws::{
     services_of_files_hold, services_of_sites_hold,
 };
 pub use static_neighbours::static_neighbours_of;
+pub use tunnel_log::TunnelLine;
+pub use tunnel_metrics::{TunnelMetrics, TunnelPortMetrics};
 pub use written_files::{FileFault, WrittenFile};

@@ -10,6 +10,7 @@ use crate::metrics::Metrics;
 use crate::neighbour_metrics::put_neighbour_metrics;
 use crate::port_metrics::put_port_metrics;
 use crate::router_ports::PortIndex;
+use crate::tunnel_metrics::{TunnelMetrics, put_tunnel_metrics};
 use ipx_metrics::PortCounts;
 use ipx_router::Router;
 use ipx_sockets::PortFilterDrops;
@@ -30,6 +31,7 @@ pub struct MetricsPage<'a> {
     /// What access lists filtered at each RFC 1234 port, in order.
     pub filtered: &'a [PortFilterDrops],
     pub ethernet: &'a EthernetMetrics,
+    pub tunnels: &'a TunnelMetrics,
     pub ipxnet: &'a IpxnetMetrics,
 }
 
@@ -44,6 +46,7 @@ impl<'a> MetricsPage<'a> {
           port_indices = self.entry.now.port_indices.now;
           filtered = self.entry.now.filtered.now;
           ethernet = self.entry.now.ethernet.now;
+          tunnels = self.entry.now.tunnels.now.ports.items;
           ipxnet = self.entry.now.ipxnet.now;
         }) (string_bytes t)) }
     {
@@ -52,6 +55,7 @@ impl<'a> MetricsPage<'a> {
         put_access_list_metrics(&mut text, alloc, self.port_indices, self.filtered)?;
         put_neighbour_metrics(&mut text, alloc, self.router, self.now)?;
         put_frame_metrics(&mut text, self.ethernet)?;
+        put_tunnel_metrics(&mut text, self.tunnels)?;
         put_ipxnet_metrics(&mut text, self.ipxnet)?;
         Ok(text)
     }

@@ -17,6 +17,7 @@ ghost use Rattle.ipx_site.specs.RouterMetrics.{AreMetrics, no_counts};
 ghost use Rattle.ipx_site.specs.RouterRounds.{AsksAgain, IsRound, SleepsAfter};
 ghost use Rattle.ipx_site.specs.WorkRefusals.{CountsFiles, DoesUnless, IsDoneIfDue, LooksAtClients, LooksAtKnown, Refusals, with_refusals};
 ghost use Rattle.ipx_site.specs.SiteMarks.{AfterMarks, marks_in};
+ghost use Rattle.ipx_site.specs.TunnelLog.{drop_counts};
 ghost use Rattle.ipx_sockets.specs.Steady.{NeverGoesBack, StopsThere};
 
 use crate::client_log::ClientLog;
@@ -32,6 +33,7 @@ use crate::ready_ports::{is_any_marked, mark_ready};
 use crate::route_change_log::RouteChangeLog;
 use crate::router_counts::RouterCounts;
 use crate::router_ports::UdpRouterPorts;
+use crate::tunnel_metrics::tunnel_metrics;
 use crate::warnings::Warnings;
 use crate::written_files::{WriteFault, WrittenFile, write_whole, written};
 use ipx_carrier::{Batch, Clock, run_batch};
@@ -175,6 +177,7 @@ impl<'a, R: SystemClock> RunningRouter<'a, R> {
     {
         let core = self.core.core().core().core();
         let ethernet = ethernet_metrics(alloc, &self.ports)?;
+        let tunnels = tunnel_metrics(alloc, &self.ports)?;
         let ipxnet = ipxnet_metrics(alloc, &self.ports)?;
         let page = MetricsPage {
             totals: self.metrics(now),
@@ -184,6 +187,7 @@ impl<'a, R: SystemClock> RunningRouter<'a, R> {
             port_indices: self.ports.port_indices(),
             filtered: self.ports.device().port_counters(),
             ethernet: &ethernet,
+            tunnels: &tunnels,
             ipxnet: &ipxnet,
         };
         page.text(alloc)
@@ -352,8 +356,9 @@ impl<'a, R: SystemClock> RunningRouter<'a, R> {
             self.new.ports)) now
             self.old.warnings.causes self.new.warnings.causes }
         // So are its drops.
-        ensures drops { AreDropsLogged self.new.core.core.core.core.outcomes self.new.core.drops now
-            self.old.drops self.new.drops }
+        ensures drops { AreDropsLogged self.new.core.core.core.core.outcomes self.new.core.drops
+            (drop_counts self.new.ports.ethernet.sockets.ethernet.items self.new.ports.port_indices.items)
+            now self.old.drops self.new.drops }
         // It notes this time for its files if that is due.
         ensures written { IsDoneIfDue 10000 now self.old.written self.new.written }
     {
@@ -366,8 +371,14 @@ impl<'a, R: SystemClock> RunningRouter<'a, R> {
         self.warnings.tell(rt, &metrics, now);
         let core = self.core.core().core().core();
         let source_drops = self.core.drops();
-        self.drops
-            .tell(rt, &core.outcomes(), core.last(), source_drops, now);
+        self.drops.tell(
+            rt,
+            &core.outcomes(),
+            core.last(),
+            source_drops,
+            &self.ports,
+            now,
+        );
     }
 
     /// The time at which it sends what waits in its queues: 0 if anything waits, and None

@@ -15,6 +15,16 @@ address = \"10.1.0.1\"
 udp_port = 24002
 ";
 
+const VXLAN: &str = "\
+[[port]]
+kind = \"ethernet\"
+network = \"00000022\"
+encapsulation = \"802.2\"
+address = \"10.1.0.1\"
+tunnel = \"vxlan\"
+vni = 42
+";
+
 const PLAYERS: &str =
     "[[port]]\nkind = \"ipxnet\"\nnetwork = \"0000d05b\"\naddress = \"any\"\naccept = \"any\"\n";
 
@@ -22,7 +32,7 @@ const HOST: &str =
     "network = \"00000011\"\naddress = \"10.1.0.20\"\nrouter = \"10.1.0.1\"\nsocket = \"4002\"\n";
 
 /// A port, what follows it in the file of a router, and how the line of the fault ends.
-const SITES: [(&str, &str, &str); 34] = [
+const SITES: [(&str, &str, &str); 43] = [
     (
         "[[port]]\nnetwork = \"00000011\n",
         PLAIN,
@@ -148,6 +158,51 @@ const SITES: [(&str, &str, &str); 34] = [
         WIRE,
         "remotes = [\"10.1.0.2:24002\", \"10.1.0.1:24002\", \"10.1.0.2:24002\"]",
         "; \"10.1.0.1:24002\" is the port's own address",
+    ),
+    (
+        VXLAN,
+        "remotes = [\"10.1.0.2\", \"r2\"]",
+        "; \"r2\" is no valid IP address or address:port",
+    ),
+    (
+        VXLAN,
+        "remotes = [\"10.1.0.2\", \"10.1.0.3\", \"10.1.0.2:4789\"]",
+        "; \"10.1.0.2:4789\" is listed twice",
+    ),
+    (
+        VXLAN,
+        "remotes = [\"10.1.0.2\", \"10.1.0.3\", \"10.1.0.2:8472\"]",
+        "; \"10.1.0.2:8472\" has the IP address of an earlier one",
+    ),
+    (
+        VXLAN,
+        "remotes = [\"10.1.0.2\", \"10.1.0.1\"]",
+        "; \"10.1.0.1\" is the port's own address",
+    ),
+    (
+        VXLAN,
+        "udp_port = 8472\nremotes = [\"10.1.0.1\", \"10.1.0.1:8472\"]",
+        "; \"10.1.0.1:8472\" is the port's own address",
+    ),
+    (
+        VXLAN,
+        "remotes = [\"10.1.0.2\", 10]",
+        "; entry 2 is no text in double quotes",
+    ),
+    (
+        WIRE,
+        "vni = 42",
+        "port 1: vni needs tunnel = \"vxlan\"",
+    ),
+    (
+        WIRE,
+        "tunnel = \"vxlan\"\nvni = \"42\"",
+        "such as 42; write it without quotes",
+    ),
+    (
+        WIRE,
+        "tunnel = \"l2tpv3\"\nsession = 1\ncookie = 12345678",
+        "or \"\" for no cookie; write it in double quotes",
     ),
     (
         PLAYERS,

@@ -122,7 +122,7 @@ const SITES: [(&str, &str); 26] = [
     ),
     (
         "[[port]]\npeer = []",
-        "port 1: unknown key peer: the keys are kind, network, address, udp_port, cost, directed, for kind = \"rfc1234\" also peers, routers and accept, for kind = \"ethernet\" encapsulation, remotes, node and switch, for kind = \"ipxnet\" node, clients, accept, peers and join",
+        "port 1: unknown key peer: the keys are kind, network, address, udp_port, cost, directed, for kind = \"rfc1234\" also peers, routers and accept, for kind = \"ethernet\" encapsulation, tunnel, vni, session, peer_session, cookie, peer_cookie, sublayer, remotes, node and switch, for kind = \"ipxnet\" node, clients, accept, peers and join",
     ),
     (
         "[[port]]\nnetwork = \"ffffffff\"",

@@ -47,6 +47,10 @@ mod sockets;
 #[cfg(test)]
 mod statics;
 #[cfg(test)]
+mod tunnel_lines;
+#[cfg(test)]
+mod tunnels;
+#[cfg(test)]
 mod waiting;
 #[cfg(test)]
 mod wires;

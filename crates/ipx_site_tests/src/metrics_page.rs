@@ -4,10 +4,12 @@
 use crate::metrics::METRICS;
 use ipx_carrier::{Core, OutcomeCounters};
 use ipx_ethernet::FrameCounters;
+use ipx_ethernet_ports::TunnelDrops;
 use ipx_metrics::{MeteredRouter, PortCounts};
 use ipx_router::{Port, Router};
 use ipx_site::{
     EthernetMetrics, EthernetPortMetrics, IpxnetMetrics, IpxnetPortMetrics, MetricsPage, PortIndex,
+    TunnelMetrics, TunnelPortMetrics,
 };
 use ipx_sockets::PortFilterDrops;
 use ipx_wire::{Network, Node};
@@ -122,6 +124,23 @@ fn ethernet(alloc: Global) -> Result<EthernetMetrics, AllocError> {
         ports: vec![in alloc; port]?,
         unknown_senders: 516,
         sent: 517,
+    })
+}
+
+fn tunnels(alloc: Global) -> Result<TunnelMetrics, AllocError> {
+    let drops = TunnelDrops {
+        short: 702,
+        not_vxlan: 703,
+        other_vni: 704,
+        control: 705,
+        other_version: 706,
+        other_session: 707,
+        other_cookie: 708,
+        last: None,
+    };
+    let port = TunnelPortMetrics { number: 2, drops };
+    Ok(TunnelMetrics {
+        ports: vec![in alloc; port]?,
     })
 }
 
@@ -303,6 +322,16 @@ ipx_frames_unknown_senders_total 516
 # HELP ipx_transmit_frames_total Frames that the system accepted for sending.
 # TYPE ipx_transmit_frames_total counter
 ipx_transmit_frames_total 517
+# HELP ipx_tunnel_dropped_total Datagrams of remotes that carry no frame in the tunnel of their \
+port, by reason.
+# TYPE ipx_tunnel_dropped_total counter
+ipx_tunnel_dropped_total{port=\"2\",reason=\"short\"} 702
+ipx_tunnel_dropped_total{port=\"2\",reason=\"not_vxlan\"} 703
+ipx_tunnel_dropped_total{port=\"2\",reason=\"other_vni\"} 704
+ipx_tunnel_dropped_total{port=\"2\",reason=\"control\"} 705
+ipx_tunnel_dropped_total{port=\"2\",reason=\"other_version\"} 706
+ipx_tunnel_dropped_total{port=\"2\",reason=\"other_session\"} 707
+ipx_tunnel_dropped_total{port=\"2\",reason=\"other_cookie\"} 708
 # HELP ipx_ipxnet_clients Players connected at the port.
 # TYPE ipx_ipxnet_clients gauge
 ipx_ipxnet_clients{port=\"3\"} 601
@@ -350,6 +379,7 @@ fn page_of<'a>(
     core: &'a MeteredRouter,
     counters: &'a [PortCounts],
     ethernet: &'a EthernetMetrics,
+    tunnels: &'a TunnelMetrics,
     ipxnet: &'a IpxnetMetrics,
 ) -> MetricsPage<'a> {
     MetricsPage {
@@ -360,6 +390,7 @@ fn page_of<'a>(
         port_indices: &PORT_INDICES,
         filtered: &FILTERED,
         ethernet,
+        tunnels,
         ipxnet,
     }
 }
@@ -370,8 +401,9 @@ fn whole_page_of_metrics(rt: HostRuntime) -> Result<(), Fail> {
     let core = router(alloc)?;
     let counters = [counts_from(100), counts_from(200), counts_from(300)];
     let ethernet = ethernet(alloc)?;
+    let tunnels = tunnels(alloc)?;
     let ipxnet = ipxnet(alloc)?;
-    let text = page_of(&core, &counters, &ethernet, &ipxnet).text(alloc)?;
+    let text = page_of(&core, &counters, &ethernet, &tunnels, &ipxnet).text(alloc)?;
     for (line, wanted) in text.as_str().lines().zip(TEXT.lines()) {
         assert_eq!(rt; line, wanted);
     }
@@ -380,22 +412,30 @@ fn whole_page_of_metrics(rt: HostRuntime) -> Result<(), Fail> {
 }
 
 /// A router that heard nothing, and the counters of its ports; None if out of memory.
-fn parts_if_memory(alloc: Global) -> Option<(MeteredRouter, EthernetMetrics, IpxnetMetrics)> {
+fn parts_if_memory(
+    alloc: Global,
+) -> Option<(MeteredRouter, EthernetMetrics, TunnelMetrics, IpxnetMetrics)> {
     let ports = vec![in alloc; port(0x11, 1), port(0x22, 2), port(0x33, 3)].ok()?;
     let core = MeteredRouter::new(alloc, Router::new(alloc, ports).ok()?).ok()?;
-    Some((core, ethernet(alloc).ok()?, ipxnet(alloc).ok()?))
+    let ethernet = ethernet(alloc).ok()?;
+    Some((core, ethernet, tunnels(alloc).ok()?, ipxnet(alloc).ok()?))
 }
 
 /// The text is complete, or the test ran out of memory.
 #[test]
 fn refused_page_of_metrics(rt: HostRuntime) -> Result<(), Fail> {
     let alloc = rt.alloc();
-    let (core, ethernet, ipxnet) = match parts_if_memory(alloc) {
+    let (core, ethernet, tunnels, ipxnet) = match parts_if_memory(alloc) {
         Some(parts) => parts,
-        None => (router(alloc)?, ethernet(alloc)?, ipxnet(alloc)?),
+        None => (
+            router(alloc)?,
+            ethernet(alloc)?,
+            tunnels(alloc)?,
+            ipxnet(alloc)?,
+        ),
     };
     let counters = [counts_from(100), counts_from(200), counts_from(300)];
-    let page = page_of(&core, &counters, &ethernet, &ipxnet);
+    let page = page_of(&core, &counters, &ethernet, &tunnels, &ipxnet);
     let text = match page.text(alloc) {
         Ok(text) => text,
         Err(_) => page.text(alloc)?,

@@ -184,7 +184,7 @@ const PLAYERS: [(&str, &str); 21] = [
     ),
     (
         "accept = \"any\"\nplayers = 4",
-        "port 1: unknown key players: the keys are kind, network, address, udp_port, cost, directed, for kind = \"rfc1234\" also peers, routers and accept, for kind = \"ethernet\" encapsulation, remotes, node and switch, for kind = \"ipxnet\" node, clients, accept, peers and join",
+        "port 1: unknown key players: the keys are kind, network, address, udp_port, cost, directed, for kind = \"rfc1234\" also peers, routers and accept, for kind = \"ethernet\" encapsulation, tunnel, vni, session, peer_session, cookie, peer_cookie, sublayer, remotes, node and switch, for kind = \"ipxnet\" node, clients, accept, peers and join",
     ),
 ];
 
@@ -222,7 +222,7 @@ const KINDS: [(&str, &str); 4] = [
     ),
     (
         "kind = \"ethernet\"\nclients = 4",
-        "port 1: clients is not a key of kind \"ethernet\": its keys are kind, network, encapsulation, address, udp_port, cost, remotes, node, switch, directed",
+        "port 1: clients is not a key of kind \"ethernet\": its keys are kind, network, encapsulation, address, tunnel, vni, session, peer_session, cookie, peer_cookie, sublayer, udp_port, cost, remotes, node, switch, directed",
     ),
     (
         "kind = \"ethernet\"\nnetwork = \"0000d05b\"\nencapsulation = \"802.2\"\naddress = \"192.0.2.10\"",

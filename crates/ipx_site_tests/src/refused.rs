@@ -5,7 +5,8 @@ use ipx_config::{ConfigError, PortConfig, ports_to_texts, read_host, read_site};
 use ipx_rate_limits::limits_of;
 use ipx_site::static_neighbours_of;
 
-/// A router with an RFC 1234 port, an Ethernet port, an ipxnet port, and static entries.
+/// A router with an RFC 1234 port, Ethernet ports, one of them with a tunnel, an ipxnet port, and
+/// static entries.
 const SITE: &str = "\
 metrics_file = \"/run/ipx/hq.prom\"
 tables_file = \"/run/ipx/hq.tables\"
@@ -30,6 +31,16 @@ encapsulation = \"802.3\"
 address = \"127.0.0.1\"
 udp_port = 24002
 remotes = [\"127.0.0.1:24001\", \"127.0.0.1:24003\"]
+
+[[port]]
+kind = \"ethernet\"
+network = \"00000044\"
+encapsulation = \"802.2\"
+address = \"127.0.0.1\"
+tunnel = \"l2tpv3\"
+session = 1
+cookie = \"0123456789abcdef\"
+remotes = [\"127.0.0.7\", \"127.0.0.9\"]
 
 [[port]]
 kind = \"ipxnet\"
@@ -81,7 +92,7 @@ fn refused_site(rt: HostRuntime) {
     match read_site(rt.alloc(), SITE) {
         Ok(site) => {
             assert!(rt;
-                site.ports.len() == 4 && site.metrics_file.is_some() && site.tables_file.is_some()
+                site.ports.len() == 5 && site.metrics_file.is_some() && site.tables_file.is_some()
             );
             assert!(rt; site.ports.first().is_some_and(|port| reached(port) == 2));
             assert!(rt; site.ports.last().is_some_and(|port| reached(port) == 2));
@@ -90,10 +101,10 @@ fn refused_site(rt: HostRuntime) {
                 assert!(rt; silent.len() == 2 && silent[1].services.len() == 1);
             }
             if let Ok(limits) = limits_of(rt.alloc(), &site.ports) {
-                assert_eq!(rt; limits.len(), 4);
+                assert_eq!(rt; limits.len(), 5);
             }
             if let Ok(texts) = ports_to_texts(rt.alloc(), &site.ports) {
-                assert_eq!(rt; texts.len(), 4);
+                assert_eq!(rt; texts.len(), 5);
             }
         }
         Err(fault) => assert!(rt; matches!(fault, ConfigError::OutOfMemory)),

@@ -176,11 +176,11 @@ const ETHERNET: [(&str, &str); 20] = [
     ),
     (
         "remotes = 1\nwire = 1\npeers = []",
-        "port 1: peers is not a key of kind \"ethernet\": its keys are kind, network, encapsulation, address, udp_port, cost, remotes, node, switch, directed",
+        "port 1: peers is not a key of kind \"ethernet\": its keys are kind, network, encapsulation, address, tunnel, vni, session, peer_session, cookie, peer_cookie, sublayer, udp_port, cost, remotes, node, switch, directed",
     ),
     (
         "remotes = 1\npeers = []\nend = []",
-        "port 1: unknown key end: the keys are kind, network, address, udp_port, cost, directed, for kind = \"rfc1234\" also peers, routers and accept, for kind = \"ethernet\" encapsulation, remotes, node and switch, for kind = \"ipxnet\" node, clients, accept, peers and join",
+        "port 1: unknown key end: the keys are kind, network, address, udp_port, cost, directed, for kind = \"rfc1234\" also peers, routers and accept, for kind = \"ethernet\" encapsulation, tunnel, vni, session, peer_session, cookie, peer_cookie, sublayer, remotes, node and switch, for kind = \"ipxnet\" node, clients, accept, peers and join",
     ),
     (
         "remotes = [\"127.0.0.1:24001\"]\nswitch = true\nnode = \"02:00:00:00:00:22\"",

@@ -146,6 +146,15 @@ For an Ethernet port, with one Ethernet frame in each datagram:
   node      its MAC address, such as \"02:00:00:00:00:22\"; default: made from address
             and udp_port
   switch    true (default) or false: whether frames are forwarded between remotes
+  tunnel    \"vxlan\" or \"l2tpv3\": what carries the frames; default: each datagram is one.
+            With a tunnel the default of udp_port is 4789 for vxlan and 1701 for l2tpv3,
+            and remotes may be IP addresses alone, with that UDP port
+  vni       of vxlan: the number of its network, 1 to 16777215
+  session   of l2tpv3: the session that is received, 1 to 4294967295
+  peer_session  of l2tpv3: the session that is sent; default: session
+  cookie    of l2tpv3: the cookie that is received, 8 or 16 hex digits; default: none
+  peer_cookie   of l2tpv3: the cookie that is sent; default: cookie
+  sublayer  of l2tpv3: true if there is the default sublayer, or false (default)
 For DOSBox clients, which connect by ipxnet:
   kind      \"ipxnet\"
   network, address, cost, directed and node as above

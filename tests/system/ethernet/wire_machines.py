@@ -20,6 +20,12 @@ ALONE = "-nodefaults -display none -machine pc -accel tcg -m 32 -boot n".split()
 SECONDS = 40
 
 
+def is_bound(place):
+    """Whether a place at 127.0.0.1 is somebody's."""
+    with open("/proc/net/udp", encoding="ascii") as file:
+        return f"0100007F:{place[1]:04X}" in file.read()
+
+
 class Machine:
     """A machine, at an end of a port."""
 
@@ -39,8 +45,7 @@ class Machine:
 
     def is_up(self):
         """Whether it has its port of UDP."""
-        with open("/proc/net/udp", encoding="ascii") as file:
-            return f"0100007F:{self.end[1]:04X}" in file.read()
+        return is_bound(self.end)
 
     def frames(self, source):
         """What came to its card, or went from there, of a station."""

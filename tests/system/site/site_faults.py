@@ -35,9 +35,11 @@ socket = "4002"
 KEYS = ("the keys of a router are metrics_file, tables_file, secret_file, port, route and service; those of a host are network, address, router, udp_port, "
         "socket, buffers, peers, routers, allow and accept")
 PORT_KEYS = ('the keys are kind, network, address, udp_port, cost, directed, for kind = "rfc1234" also peers, routers and accept, '
-             'for kind = "ethernet" encapsulation, remotes, node and switch, for kind = "ipxnet" node, clients, accept, peers and join')
+             'for kind = "ethernet" encapsulation, tunnel, vni, session, peer_session, cookie, peer_cookie, sublayer, remotes, node and switch, '
+             'for kind = "ipxnet" node, clients, accept, peers and join')
 RFC1234_KEYS = "its keys are kind, network, address, udp_port, cost, peers, routers, accept, directed"
-FRAMES_KEYS = "its keys are kind, network, encapsulation, address, udp_port, cost, remotes, node, switch, directed"
+FRAMES_KEYS = ("its keys are kind, network, encapsulation, address, tunnel, vni, session, peer_session, cookie, peer_cookie, sublayer, udp_port, "
+               "cost, remotes, node, switch, directed")
 IPXNET_KEYS = "its keys are kind, network, address, udp_port, cost, node, clients, accept, peers, join, directed"
 NETWORK = 'eight hex digits, neither all 0 nor all f, such as "00000011"'
 ADDRESS = 'an IPv4 address of this machine, such as "192.0.2.10", or for kind "ipxnet" also "any"'
@@ -60,6 +62,7 @@ UNQUOTED = ('invalid value, expected a string, number, boolean, date-time, array
 # What follows, if the text tells more of the fault.
 QUOTED, NO_QUOTES = "; write it in double quotes", "; write it without quotes"
 NO_IP, NO_PLACE, NO_NETWORK = (f"is no valid {what}" for what in ("IP address", "address:port", "network"))
+NO_IP_OR_PLACE = "is no valid IP address or address:port"
 NO_TEXT = "is no text in double quotes"
 TWICE, OWN_END, AT_WIRE = "is listed twice", "is the port's own address", "127.0.1.2:20996"
 MANY = "the list has 257 entries"
@@ -74,6 +77,9 @@ DIRECTED = '"none", "few" or "all"'
 KIND = '"rfc1234", "ethernet" or "ipxnet"'
 FRAME = '"802.3", "802.2", "snap" or "ethernet-ii"'
 ENDS = 'a list of 1 to 256 address:port, each listed once, such as ["127.0.0.1:24001"]'
+TUNNEL, VNI, SESSION = '"vxlan" or "l2tpv3"', "a number from 1 to 16777215, such as 42", "a number from 1 to 4294967295, such as 1"
+COOKIE = '8 or 16 hex digits, such as "0123456789abcdef", or "" for no cookie'
+VXLAN = 'tunnel = "vxlan"\nvni = 42\n'
 STATION = 'the MAC address of one station, such as "02:00:00:00:00:22"'
 ROUTE_KEYS = "the keys are port, next_hop, network, hops and ticks"
 SERVICE_KEYS = "the keys are port, next_hop, type, name, ipx_address and hops"
@@ -232,6 +238,17 @@ ROUTER_FILES = [
     (changed(changed(changed(WIRE, "address", '"127.0.1.2"'), "udp_port", "20996"), "remotes", f'["127.0.1.3:20998", "{AT_WIRE}"]'),
      f'port 1: remotes: expected {ENDS}; "{AT_WIRE}" {OWN_END}'),
     (changed(WIRE, "remotes", str([f"127.0.1.3:{1 + it}" for it in range(257)]).replace("'", '"')), f"port 1: remotes: expected {ENDS}; {MANY}"),
+    (WIRE + 'tunnel = "gre"\n', f"port 1: tunnel: expected {TUNNEL}"),
+    (WIRE + "vni = 42\n", 'port 1: vni needs tunnel = "vxlan"'),
+    (WIRE + VXLAN + "cookie = \"\"\n", 'port 1: cookie needs tunnel = "l2tpv3"'),
+    (WIRE + 'tunnel = "vxlan"\n', f"port 1: vni is missing: expected {VNI}"),
+    (WIRE + 'tunnel = "vxlan"\nvni = "42"\n', f"port 1: vni: expected {VNI}{NO_QUOTES}"),
+    (WIRE + 'tunnel = "l2tpv3"\n', f"port 1: session is missing: expected {SESSION}"),
+    (WIRE + 'tunnel = "l2tpv3"\nsession = 0\n', f"port 1: session: expected {SESSION}"),
+    (WIRE + 'tunnel = "l2tpv3"\nsession = 1\ncookie = "0123"\n', f"port 1: cookie: expected {COOKIE}"),
+    (changed(WIRE, "remotes", '["127.0.1.3", "localhost"]') + VXLAN, f'port 1: remotes: expected {ENDS}; "localhost" {NO_IP_OR_PLACE}'),
+    (changed(WIRE, "remotes", '["127.0.1.3", "127.0.1.3:8472"]') + VXLAN,
+     f'port 1: remotes: expected {ENDS}; "127.0.1.3:8472" has the IP address of an earlier one'),
     (WIRE + "node = \"020000000022\"\n", f"port 1: node: expected {STATION}"),
     (WIRE + "node = \"03:00:00:00:00:22\"\n", f"port 1: node: expected {STATION}"),
     (WIRE + "node = \"00:00:00:00:00:00\"\nswitch = 1\n", f"port 1: node: expected {STATION}"),

@@ -8,8 +8,8 @@ use Rattle.ipx_config.proofs.WireEnds.{listed_ends, not_so_many}
 use Rattle.ipx_config.proofs.ethernet_values.ends_of.Goals as goal
 
 pub returns-then-count-eq0 : goal.returns-then-count-eq0
-returns-then-count-eq0 c = not_so_many (view c.args.value.now) c.in-Some.values.now.items (sym c.as_array.ensures ∙ ap (option_map (λ v. array_view v.now)) c.in-Some.is) (omega arith)
+returns-then-count-eq0 c = not_so_many c.args.usual (view c.args.value.now) c.in-Some.values.now.items (sym c.as_array.ensures ∙ ap (option_map (λ v. array_view v.now)) c.in-Some.is) (omega arith)
 
 pub returns : goal.returns
-returns c = listed_ends (view c.args.value.now) c.in-Some.values.now.items (sym c.as_array.ensures ∙ ap (option_map (λ v. array_view v.now)) c.in-Some.is) (omega arith) (omega arith) c.places_of.result
-    (subst (λ (l : List Value). IfOk c.places_of.result (ReadsEthernetEnds (items_view l))) c.deref.ensures.value c.places_of.ensures)
+returns c = listed_ends c.args.usual (view c.args.value.now) c.in-Some.values.now.items (sym c.as_array.ensures ∙ ap (option_map (λ v. array_view v.now)) c.in-Some.is) (omega arith) (omega arith) c.places_of.result
+    (subst (λ (l : List Value). IfOk c.places_of.result (ReadsEthernetEnds c.args.usual (items_view l))) c.deref.ensures.value c.places_of.ensures)

@@ -18,6 +18,7 @@ returns-then-is_err-clause-sends c = (
   refl,
   refl,
   refl,
+  refl,
 )
 
 pub returns-clause-sends : goal.returns-clause-sends
@@ -28,6 +29,7 @@ returns-clause-sends c = (
     sends_there c.args.self.now.ethernet.items c.args.port c.args.end c.args.bytes.now c.index_mut.result.now c.send.new.self c.index_mut.ensures.value
         (not_failed c.send.result (search rules) c.send.ensures.sent),
   ),
+  refl,
   refl,
   refl,
   refl,

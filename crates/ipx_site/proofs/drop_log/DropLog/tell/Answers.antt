@@ -1,5 +1,7 @@
-use Rattle.std.proofs.Common.{ap, subst, sym}
-use Rattle.ipx_sockets.specs.Moments.{IsLoggedIfDue}
+use Rattle.std.proofs.Common.{ap, subst, sym, ◌∙◌}
+use Rattle.ipx_sockets.specs.Moments.{AreLoggedIfDue, IsLoggedIfDue}
+use Rattle.ipx_site.specs.TunnelLog.{drop_counts}
+use Rattle.ipx_site.specs.declared.tunnel_log.TunnelLog.{TunnelLog}
 use Rattle.ipx_site.specs.declared.drop_log.DropLog.{DropLog}
 use Rattle.ipx_sockets.specs.declared.throttled_log.ThrottledLog.{ThrottledLog}
 use Rattle.ipx_site.proofs.drop_log.DropLog.tell.Goals as goal
@@ -21,4 +23,6 @@ returns g c =
       forwarded_control = subst (λ (l : ThrottledLog). IsLoggedIfDue c.args.source.forwarded_control.count now l new.forwarded_control) (ap (λ (d : DropLog). d.forwarded_control) r.rest) s.forwarded_control;
       group_source = subst (λ (l : ThrottledLog). IsLoggedIfDue c.args.source.group_source.count now l new.group_source) (ap (λ (d : DropLog). d.group_source) r.rest) s.group_source;
       looped_source = subst (λ (l : ThrottledLog). IsLoggedIfDue c.args.source.looped_source.count now l new.looped_source) (ap (λ (d : DropLog). d.looped_source) r.rest) s.looped_source;
+      at_tunnels = subst (λ (l : TunnelLog). AreLoggedIfDue (drop_counts c.args.ports.now.ethernet.sockets.ethernet.items c.args.ports.now.port_indices.items) now l.ports c.tell.new.self.ports)
+          (ap (λ (d : DropLog). d.tunnels) s.rest ∙ ap (λ (d : DropLog). d.tunnels) r.rest) c.tell.ensures;
     }

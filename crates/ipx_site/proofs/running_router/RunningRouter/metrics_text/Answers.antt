@@ -14,6 +14,7 @@ returns g c =
         port_indices = c.port_indices.result.now;
         filtered = c.port_counters-2.result.now;
         ethernet = c.in_ok-ethernet.ethernet;
+        tunnels = c.in_ok-tunnels.tunnels.ports.items;
         ipxnet = c.in_ok-ipxnet.ipxnet;
       };
       counted = c.metrics.ensures.metrics;
@@ -24,6 +25,7 @@ returns g c =
       port_indices = c.port_indices.ensures;
       filtered = c.port_counters-2.ensures ∙ ap (λ d. d.port_counters) c.device.ensures;
       ethernet = c.in_ok-ethernet.ensures.ports;
+      tunnels = c.in_ok-tunnels.ensures;
       frames_unknown = c.in_ok-ethernet.ensures.unknown_senders;
       frames_sent = c.in_ok-ethernet.ensures.sent;
       ipxnet = c.in_ok-ipxnet.ensures.ports;
