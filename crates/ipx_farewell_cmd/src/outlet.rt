@@ -13,7 +13,7 @@ use std::alloc::Global;
 use std::io::ErrorKind;
 use std::net::Net;
 
-/// The bound socket of a port, with all to whom the port sends.
+/// The bound socket of a port, with all peers and members that the port sends to.
 #[derive(Drop)]
 pub enum Outlet {
     Datagrams(OwnedRfc1234Ports<UdpSockets>),
