@@ -59,7 +59,8 @@ fn ethernet<R: Net>(
     let switches = vec![in alloc; Switch::new(alloc, own, port.switched)?]?;
     let ends = Vec::from_slice(alloc, &port.ends)?;
     let mut sockets = EthernetSockets::new(alloc);
-    match sockets.bind(rt, socket_addr(port.address, port.udp_port), ends) {
+    let at = socket_addr(port.address, port.udp_port);
+    match sockets.bind(rt, at, ends, port.tunnel) {
         Ok(()) => Ok(Outlet::Ethernet(EthernetPorts::new(sockets, switches))),
         Err(error) if error.kind() == ErrorKind::OutOfMemory => Err(FarewellFault::OutOfMemory),
         Err(error) => {
