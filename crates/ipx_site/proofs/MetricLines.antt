@@ -195,7 +195,7 @@ grew_unless (Ok a) start old new part parts false families was is failed same = 
 grew_unless (Err e) start old new part parts false families was is failed same = tt
 
 -- families after other families
-families_more : (start old new : List ℕ) (before more : List MetricFamily) → old ≡ start ++ families_text before → new ≡ old ++ families_text more
+pub families_more : (start old new : List ℕ) (before more : List MetricFamily) → old ≡ start ++ families_text before → new ≡ old ++ families_text more
     → new ≡ start ++ families_text (before ++ more)
 families_more start old new before more was is =
     is ∙ ap (λ t. t ++ families_text more) was ∙ append_assoc start (families_text before) (families_text more)

@@ -1,6 +1,6 @@
 //! Prometheus metrics of a router.
 
-ghost use Rattle.std.specs.Prelude.{◌≡◌, ◌++◌, IfOk, OnOk, string_bytes};
+ghost use Rattle.std.specs.Prelude.{◌≡◌, ◌++◌, IfOk, OnOk, drop, string_bytes, take};
 ghost use Rattle.ipx_site.specs.MetricsText.{families_text, family_lines};
 ghost use Rattle.ipx_site.specs.TotalFamilies.{dropped_family, faults_family, filtered_family, outcomes_family, total_families};
 
@@ -218,24 +218,48 @@ fn put_faults(text: &mut String, metrics: &Metrics) -> Result<(), AllocError>
     put_each(text, &FAULTS, "kind", &metrics)
 }
 
+/// The first three families follow: what was received and sent, and what became of it.
+fn put_packets(text: &mut String, metrics: &Metrics) -> Result<(), AllocError>
+    ensures { OnOk result (string_bytes text.new
+        ≡ string_bytes text.old ++ families_text (take 3 (total_families metrics.now))) }
+{
+    put_one(text, &HEARD, metrics.heard)?;
+    put_one(text, &SENT, metrics.sent)?;
+    put_outcomes(text, &metrics.outcomes)
+}
+
+/// The next four follow: what was dropped, filtered or not sent.
+fn put_drops(text: &mut String, metrics: &Metrics) -> Result<(), AllocError>
+    ensures { OnOk result (string_bytes text.new
+        ≡ string_bytes text.old ++ families_text (take 4 (drop 3 (total_families metrics.now)))) }
+{
+    put_dropped(text, metrics)?;
+    put_one(text, &UNKNOWN_SENDERS, metrics.kept.unknown_senders.count)?;
+    put_filtered(text, metrics)?;
+    put_one(text, &REFUSED, metrics.refused)
+}
+
+/// The last five follow: the errors of the system, what it holds now, and its age.
+fn put_state(text: &mut String, metrics: &Metrics) -> Result<(), AllocError>
+    ensures { OnOk result (string_bytes text.new
+        ≡ string_bytes text.old ++ families_text (drop 7 (total_families metrics.now))) }
+{
+    put_faults(text, metrics)?;
+    put_one(text, &QUEUE, metrics.queue)?;
+    put_one(text, &ROUTES, metrics.routes)?;
+    put_one(text, &SERVICES, metrics.services)?;
+    put_one(text, &SECONDS, metrics.seconds)
+}
+
 impl Metrics {
     /// These metrics in the Prometheus text format.
     pub fn text(&self, alloc: Global) -> Result<String, AllocError>
         ensures { IfOk result (λ t. string_bytes t ≡ families_text (total_families self.now)) }
     {
         let mut text = String::new(alloc);
-        put_one(&mut text, &HEARD, self.heard)?;
-        put_one(&mut text, &SENT, self.sent)?;
-        put_outcomes(&mut text, &self.outcomes)?;
-        put_dropped(&mut text, self)?;
-        put_one(&mut text, &UNKNOWN_SENDERS, self.kept.unknown_senders.count)?;
-        put_filtered(&mut text, self)?;
-        put_one(&mut text, &REFUSED, self.refused)?;
-        put_faults(&mut text, self)?;
-        put_one(&mut text, &QUEUE, self.queue)?;
-        put_one(&mut text, &ROUTES, self.routes)?;
-        put_one(&mut text, &SERVICES, self.services)?;
-        put_one(&mut text, &SECONDS, self.seconds)?;
+        put_packets(&mut text, self)?;
+        put_drops(&mut text, self)?;
+        put_state(&mut text, self)?;
         Ok(text)
     }
 }

@@ -1,13 +1,12 @@
-use Rattle.std.proofs.Common.{◌∙◌, ◌++◌, ap}
+use Rattle.std.proofs.Common.{◌∙◌, ◌++◌, ap, drop, take}
 use Rattle.ipx_site.specs.MetricsText.{families_text}
 use Rattle.ipx_site.specs.TotalFamilies.{total_families}
-use Rattle.ipx_site.proofs.MetricLines.{grew, grew_more}
+use Rattle.ipx_site.proofs.MetricLines.{families_more}
 use Rattle.ipx_site.proofs.metrics.Metrics.text.Goals as goal
 
 pub returns : goal.returns
 returns c =
-    let first = grew_more _ _ _ _ _ (grew_more _ _ _ _ _ (grew _ _ _ c.in_ok-put_one.ensures) c.in_ok-put_one-2.ensures) c.in_ok-put_outcomes.ensures in
-    let second = grew_more _ _ _ _ _ (grew_more _ _ _ _ _ (grew_more _ _ _ _ _ first c.in_ok-put_dropped.ensures) c.in_ok-put_one-3.ensures) c.in_ok-put_filtered.ensures in
-    let third = grew_more _ _ _ _ _ (grew_more _ _ _ _ _ (grew_more _ _ _ _ _ second c.in_ok-put_one-4.ensures) c.in_ok-put_faults.ensures) c.in_ok-put_one-5.ensures in
-    let fourth = grew_more _ _ _ _ _ (grew_more _ _ _ _ _ (grew_more _ _ _ _ _ third c.in_ok-put_one-6.ensures) c.in_ok-put_one-7.ensures) c.in_ok-put_one-8.ensures in
-    fourth.is ∙ ap (λ t. t ++ families_text (total_families c.args.self.now)) c.new-text.ensures.bytes
+    let families = total_families c.args.self.now in
+    let first = families_more _ _ _ (take 3 families) (take 4 (drop 3 families)) c.in_ok-put_packets.ensures c.in_ok-put_drops.ensures in
+    families_more _ _ _ (take 3 families ++ take 4 (drop 3 families)) (drop 7 families) first c.in_ok-put_state.ensures
+    ∙ ap (λ t. t ++ families_text families) c.new-text.ensures.bytes
