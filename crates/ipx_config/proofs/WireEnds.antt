@@ -1,5 +1,5 @@
 -- which remotes of an Ethernet port a value lists
-use Rattle.std.proofs.Common.{Vec, ◌≡◌, ◌≤◌, Result, Ok, Err, ℕ, List, [], ◌∷◌, ◌++◌, length, Option, Some, None, true, false, ap, inl, inr, sym, ◌∙◌, subst, arith, append-nil, lit≤}
+use Rattle.std.proofs.Common.{Vec, ◌≡◌, ◌≤◌, ◌+◌, Result, Ok, Err, ℕ, List, [], ◌∷◌, ◌++◌, length, Option, Some, None, true, false, ap, inl, inr, sym, ◌∙◌, subst, arith, append-nil, lit≤}
 use Rattle.std.proofs.lemmas.Option.{same_Some}
 use Rattle.std.proofs.NetLemmas.Ipv4.{read_ipv4_complete}
 use Rattle.std.proofs.NetLemmas.Numbers.{NoDigit}
