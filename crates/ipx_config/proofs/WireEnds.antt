@@ -1,5 +1,5 @@
 -- which remotes of an Ethernet port a value lists
-use Rattle.std.proofs.Common.{Vec, ◌≡◌, ◌≤◌, ◌+◌, Result, Ok, Err, ℕ, List, [], ◌∷◌, ◌++◌, length, Option, Some, None, true, false, ap, inl, inr, sym, ◌∙◌, subst, arith, append-nil, lit≤}
+use Rattle.std.proofs.Common.{Vec, ◌≡◌, ◌≤◌, Result, Ok, Err, ℕ, List, [], ◌∷◌, ◌++◌, length, Option, Some, None, true, false, ap, inl, inr, sym, ◌∙◌, subst, arith, append-nil, lit≤}
 use Rattle.std.proofs.lemmas.Option.{same_Some}
 use Rattle.std.proofs.NetLemmas.Ipv4.{read_ipv4_complete}
 use Rattle.std.proofs.NetLemmas.Numbers.{NoDigit}
@@ -10,7 +10,7 @@ use Rattle.std.specs.Net.Addr.{ipv4_octets}
 use Rattle.std.specs.Net.Grammar.{IsDotted, IsSocketV4Text}
 use Rattle.std.specs.Net.Reader.{read_ipv4}
 use Rattle.std.specs.Net.Socket.{v4_ip}
-use Rattle.std.specs.Prelude.{IfOk}
+use Rattle.std.specs.Prelude.{IfOk, codes}
 use Rattle.std.specs.declared.net.ipv4_addr.Ipv4Addr.{Ipv4Addr}
 use Rattle.std.specs.declared.net.socket_addr.SocketAddrV4.{SocketAddrV4}
 use Rattle.toml.specs.Data.{Data, Items, no_items, item, as_array, as_str}
@@ -65,9 +65,8 @@ not_both text octets p dotted (ip, port, split, is_ip, is_port) =
     let front = read_ipv4_complete ip (ipv4_octets (v4_ip p)) port is_ip stop in
     let texts : text ++ [] ≡ ip ++ port = append-nil text ∙ split in
     let same = same_parts octets (ipv4_octets (v4_ip p)) [] port (sym whole ∙ ap read_ipv4 texts ∙ front) in
-    let none : length port ≡ 0 = ap length (sym same.1) in
-    let some : length port ≡ 1 + length is_port.0 = ap length is_port.1 in
-    omega (arith, none, some)
+    let empty : [] ≡ codes ":" ++ is_port.0 = same.1 ∙ is_port.1 in
+    absurd (cc)
 
 -- a value is one IP address at most
 ip_once : (d : Data) (a b : List ℕ) → IsIpAddress d a → IsIpAddress d b → a ≡ b
