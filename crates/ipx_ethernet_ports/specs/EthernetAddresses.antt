@@ -1,6 +1,6 @@
--- To which remote a UDP datagram goes and what it carries, and from which one it comes. Defined by this project:
--- a datagram over IPv6 comes from none.
-use Rattle.std.specs.Prelude.{◌≡◌, ◌⊎◌, ◌<◌, ◌≤◌, ⊤, ℕ, ℤ, List, Bool, true, false, ◌==◌, ◌&&◌, ◌||◌, Option, Some, None, Result, Ok, Err, IfSome, is_some, MatchBool, if◌then◌else◌, length, map, min, nat_lt, position, slice_get, slice_set, take}
+-- To which remote a UDP datagram goes and what it carries, and from which one it comes. A remote that is learned
+-- is where its last frame came from. Defined by this project: a datagram over IPv6 comes from none.
+use Rattle.std.specs.Prelude.{◌≡◌, ◌⊎◌, ◌<◌, ◌≤◌, ⊤, ℕ, ℤ, List, [], ◌∷◌, Bool, true, false, ◌==◌, ◌&&◌, ◌||◌, Option, Some, None, Result, Ok, Err, IfSome, is_some, MatchBool, if◌then◌else◌, length, map, min, nat_lt, position, slice_get, slice_set, take}
 use Rattle.std.specs.Str.{bytes_eq}
 use Rattle.std.specs.Net.Addr.{ipv4_octets}
 use Rattle.std.specs.Net.Socket.{v4_ip, v4_port}
@@ -14,6 +14,8 @@ use Rattle.ipx_carrier.specs.ReadySet.{IsFilteredOrAnswer, is_come, is_port_mark
 use Rattle.ipx_carrier.specs.SocketEvents.{SocketEvent}
 use Rattle.ipx_carrier.specs.Traces.{Got, TriesToReceive, raw_fd_of, refused_to, sent_to}
 use Rattle.ipx_ethernet_ports.specs.declared.end_sockets.FrameCame.{FrameCame}
+use Rattle.ipx_ethernet_ports.specs.declared.remotes.Remotes.{Remotes}
+use Rattle.ipx_ethernet_ports.specs.declared.remotes.Remotes.TheVariants.{Fixed, Learned}
 use Rattle.ipx_ethernet_ports.specs.declared.socket.EthernetSocket.{EthernetSocket}
 use Rattle.ipx_ethernet_ports.specs.declared.sockets.EthernetSockets.{EthernetSockets}
 use Rattle.ipx_ethernet_ports.specs.declared.socket.Arrival.{Arrival}
@@ -49,13 +51,49 @@ is_place tunnel (V6 a) place = false
 abbrev pub end_at_place : Tunnel → SocketAddr → List SocketAddrV4 → Option ℕ
 end_at_place tunnel from ends = position (is_place tunnel from) ends
 
+-- the remote from which a datagram came: that at its address, or the one that is learned, which may send from any
+-- address of IPv4
+abbrev pub end_from : Tunnel → SocketAddr → Remotes → Option ℕ
+end_from tunnel from (Fixed places) = end_at_place tunnel from places.items
+end_from tunnel (V4 a) (Learned place) = Some 0
+end_from tunnel (V6 a) (Learned place) = None
+
+-- how many remotes there are
+abbrev pub remote_count : Remotes → ℕ
+remote_count (Fixed places) = length places.items
+remote_count (Learned place) = 1
+
+-- the place of a remote, if it is known
+abbrev pub place_of_end : Remotes → ℕ → Option SocketAddrV4
+place_of_end (Fixed places) end = slice_get places.items end
+place_of_end (Learned place) end = place
+
+-- the remotes once a frame came from here: the one that is learned is there
+abbrev pub learned_from : SocketAddr → Remotes → Remotes
+learned_from from (Fixed places) = Fixed places
+learned_from (V4 a) (Learned place) = Learned (Some a)
+learned_from (V6 a) (Learned place) = Learned place
+
+-- the places that are known, and whether there is one remote that is learned
+abbrev pub known_places : Remotes → List SocketAddrV4
+known_places (Fixed places) = places.items
+known_places (Learned None) = []
+known_places (Learned (Some place)) = place ∷ []
+
+abbrev pub is_learned : Remotes → Bool
+is_learned (Fixed places) = false
+is_learned (Learned place) = true
+
 -- how many remotes each socket has
 abbrev pub remote_counts : List EthernetSocket → List ℕ
-remote_counts ethernet = map (λ w. length w.ends.items) ethernet
+remote_counts ethernet = map (λ w. remote_count w.remotes) ethernet
 
--- the addresses of the remotes of each
+-- the known places of the remotes of each, and which of them learn the place of theirs
 abbrev pub remote_places : List EthernetSocket → List (List SocketAddrV4)
-remote_places ethernet = map (λ w. w.ends.items) ethernet
+remote_places ethernet = map (λ w. known_places w.remotes) ethernet
+
+abbrev pub learning_sockets : List EthernetSocket → List Bool
+learning_sockets ethernet = map (λ w. is_learned w.remotes) ethernet
 
 -- where each is bound
 abbrev pub bound_places : List EthernetSocket → List SocketAddrV4
@@ -94,15 +132,26 @@ abbrev pub frame_refused : Tunnel → SocketAddrV4 → List ℕ → PlacedSocket
 frame_refused tunnel to frame socket =
     if is_too_long tunnel frame then socket else refused_to socket to (datagram_of tunnel frame)
 
--- the socket of this port sent this frame by its tunnel to the address of this remote, or did not; no other
--- changed
+-- the socket of this port sent this frame by its tunnel to the place of this remote, or did not; no other changed
 abbrev pub SendsFrame : ℕ → ℕ → List ℕ → List EthernetSocket → List EthernetSocket → Type 0
-SendsFrame port end frame old new = IfSome (slice_get old port) (λ w. IfSome (slice_get w.ends.items end) (λ to.
-    new ≡ slice_set old port (record w { socket = frame_sent w.tunnel to frame w.socket })))
+SendsFrame port end frame old new = IfSome (slice_get old port) (λ w. (to : SocketAddrV4)
+    × (place_of_end w.remotes end ≡ Some to)
+    × (new ≡ slice_set old port (record w { socket = frame_sent w.tunnel to frame w.socket })))
 
 abbrev pub RefusesFrame : ℕ → ℕ → List ℕ → List EthernetSocket → List EthernetSocket → Type 0
-RefusesFrame port end frame old new = IfSome (slice_get old port) (λ w. IfSome (slice_get w.ends.items end) (λ to.
-    new ≡ slice_set old port (record w { socket = frame_refused w.tunnel to frame w.socket })))
+RefusesFrame port end frame old new = IfSome (slice_get old port) (λ w. (to : SocketAddrV4)
+    × (place_of_end w.remotes end ≡ Some to)
+    × (new ≡ slice_set old port (record w { socket = frame_refused w.tunnel to frame w.socket })))
+
+-- how many frames were sent then: none more if no place is known yet
+abbrev pub sent_counted : Option SocketAddrV4 → ℕ → ℕ
+sent_counted None sent = sent
+sent_counted (Some to) sent = raised sent
+
+-- the place of this remote is not known yet, so the frame was not sent, and no socket changed
+abbrev pub KnowsNoPlace : ℕ → ℕ → List EthernetSocket → List EthernetSocket → Type 0
+KnowsNoPlace port end old new =
+    IfSome (slice_get old port) (λ w. place_of_end w.remotes end ≡ None) × (new ≡ old)
 
 -- the buffer that a socket receives into: frames that are alone go into the caller's
 abbrev pub IsBufferOf : Tunnel → List ℕ → List ℕ → Type 0
@@ -121,11 +170,11 @@ HandsFrame tunnel bytes room (Some end) None answer = (size : ℕ) × IsFrameIn 
     × (answer ≡ Some (record { end = end; size = size }))
 
 -- what is handed over of what a socket with this tunnel and these remotes got
-abbrev pub HandsOver : Tunnel → List SocketAddrV4 → Got → List ℕ → List ℕ → Option FrameCame → Type 0
-HandsOver tunnel ends (Ok (Some came)) buffer room answer =
-    HandsFrame tunnel (take came.0 buffer) room (end_at_place tunnel came.1 ends) (tunnel_fault tunnel (take came.0 buffer)) answer
-HandsOver tunnel ends (Ok None) buffer room answer = answer ≡ None
-HandsOver tunnel ends (Err _) buffer room answer = answer ≡ None
+abbrev pub HandsOver : Tunnel → Remotes → Got → List ℕ → List ℕ → Option FrameCame → Type 0
+HandsOver tunnel remotes (Ok (Some came)) buffer room answer =
+    HandsFrame tunnel (take came.0 buffer) room (end_from tunnel came.1 remotes) (tunnel_fault tunnel (take came.0 buffer)) answer
+HandsOver tunnel remotes (Ok None) buffer room answer = answer ≡ None
+HandsOver tunnel remotes (Err _) buffer room answer = answer ≡ None
 
 -- what is counted then: a datagram of a remote, if it has no frame
 abbrev pub drops_of : SocketAddr → Option ℕ → Option TunnelFault → TunnelDrops → TunnelDrops
@@ -133,11 +182,23 @@ drops_of from None fault drops = drops
 drops_of from (Some end) None drops = drops
 drops_of from (Some end) (Some fault) drops = drop_counted from fault drops
 
-abbrev pub drops_after : Tunnel → List SocketAddrV4 → Got → List ℕ → TunnelDrops → TunnelDrops
-drops_after tunnel ends (Ok (Some came)) buffer drops =
-    drops_of came.1 (end_at_place tunnel came.1 ends) (tunnel_fault tunnel (take came.0 buffer)) drops
-drops_after tunnel ends (Ok None) buffer drops = drops
-drops_after tunnel ends (Err _) buffer drops = drops
+abbrev pub drops_after : Tunnel → Remotes → Got → List ℕ → TunnelDrops → TunnelDrops
+drops_after tunnel remotes (Ok (Some came)) buffer drops =
+    drops_of came.1 (end_from tunnel came.1 remotes) (tunnel_fault tunnel (take came.0 buffer)) drops
+drops_after tunnel remotes (Ok None) buffer drops = drops
+drops_after tunnel remotes (Err _) buffer drops = drops
+
+-- what the remotes are then: a frame shows where the one that is learned is, and nothing else does
+abbrev pub remotes_of : SocketAddr → Option ℕ → Option TunnelFault → Remotes → Remotes
+remotes_of from None fault remotes = remotes
+remotes_of from (Some end) (Some fault) remotes = remotes
+remotes_of from (Some end) None remotes = learned_from from remotes
+
+abbrev pub remotes_after : Tunnel → Got → List ℕ → Remotes → Remotes
+remotes_after tunnel (Ok (Some came)) buffer remotes =
+    remotes_of came.1 (end_from tunnel came.1 remotes) (tunnel_fault tunnel (take came.0 buffer)) remotes
+remotes_after tunnel (Ok None) buffer remotes = remotes
+remotes_after tunnel (Err _) buffer remotes = remotes
 
 -- the address of a sender, if it is of IPv4
 abbrev pub place_of_sender : SocketAddr → Option SocketAddrV4
@@ -149,10 +210,10 @@ abbrev pub unknown_of : SocketAddr → Option ℕ → Option SocketAddr
 unknown_of from None = Some from
 unknown_of from (Some end) = None
 
-abbrev pub unknown_sender : Tunnel → List SocketAddrV4 → Got → Option SocketAddr
-unknown_sender tunnel ends (Ok (Some came)) = unknown_of came.1 (end_at_place tunnel came.1 ends)
-unknown_sender tunnel ends (Ok None) = None
-unknown_sender tunnel ends (Err _) = None
+abbrev pub unknown_sender : Tunnel → Remotes → Got → Option SocketAddr
+unknown_sender tunnel remotes (Ok (Some came)) = unknown_of came.1 (end_from tunnel came.1 remotes)
+unknown_sender tunnel remotes (Ok None) = None
+unknown_sender tunnel remotes (Err _) = None
 
 -- how many unknown senders there were then, and the address of the last one
 abbrev pub unknown_counted : Option SocketAddr → ℕ → ℕ
@@ -171,11 +232,15 @@ AsksMarkedPort port answer room old new = IfSome (slice_get old.ethernet.items p
     (got : Got) × (buffer : List ℕ) × (after : PlacedSocket)
     × IsBufferOf w.tunnel buffer room
     × TriesToReceive got buffer w.socket after old.faults new.faults
-    × (new.ethernet.items ≡ slice_set old.ethernet.items port (record w { socket = after; drops = drops_after w.tunnel w.ends.items got buffer w.drops }))
-    × HandsOver w.tunnel w.ends.items got buffer room answer
+    × (new.ethernet.items ≡ slice_set old.ethernet.items port (record w {
+      socket = after;
+      drops = drops_after w.tunnel w.remotes got buffer w.drops;
+      remotes = remotes_after w.tunnel got buffer w.remotes;
+    }))
+    × HandsOver w.tunnel w.remotes got buffer room answer
     × (new.marks ≡ marks_after port got old.marks)
-    × (new.unknown_senders ≡ unknown_counted (unknown_sender w.tunnel w.ends.items got) old.unknown_senders)
-    × (new.last_unknown ≡ last_unknown_after (unknown_sender w.tunnel w.ends.items got) old.last_unknown)
+    × (new.unknown_senders ≡ unknown_counted (unknown_sender w.tunnel w.remotes got) old.unknown_senders)
+    × (new.last_unknown ≡ last_unknown_after (unknown_sender w.tunnel w.remotes got) old.last_unknown)
     × IsFilteredOrAnswer (is_come got) (is_some answer) old.filtered new.filtered)
 
 -- a port was asked, and gave this answer. Without a mark the system is not asked, the answer is None, and
@@ -186,13 +251,15 @@ AsksEthernetSockets port (Ok answer) room old new = (is_port_marked old.marks po
     × (new.sent ≡ old.sent) × (new.failures ≡ old.failures)
 AsksEthernetSockets port (Err _) room old new = ⊥
 
--- the socket of the port of a frame was asked to send it to the address of its remote. The system took it or
--- refused it, and that is counted. All else stays
+-- the socket of the port of a frame was asked to send it to the place of its remote. The system took it or
+-- refused it, and that is counted. Or no place is known yet, and nothing was asked or counted. All else stays
 abbrev pub SendsByEthernetSockets : EthernetSockets → EndFrame → EthernetSockets → Type 0
 SendsByEthernetSockets old f new = (((new.sent ≡ raised old.sent) × (new.failures ≡ old.failures)
     × SendsFrame f.port f.end f.bytes old.ethernet.items new.ethernet.items)
-    ⊎ ((new.sent ≡ old.sent) × (new.failures ≡ raised old.failures)
-    × RefusesFrame f.port f.end f.bytes old.ethernet.items new.ethernet.items))
+    ⊎ (((new.sent ≡ old.sent) × (new.failures ≡ raised old.failures)
+    × RefusesFrame f.port f.end f.bytes old.ethernet.items new.ethernet.items)
+    ⊎ ((new.sent ≡ old.sent) × (new.failures ≡ old.failures)
+    × KnowsNoPlace f.port f.end old.ethernet.items new.ethernet.items)))
     × (new.faults ≡ old.faults) × (new.filtered ≡ old.filtered) × (new.unknown_senders ≡ old.unknown_senders)
     × (new.last_unknown ≡ old.last_unknown) × (new.marks ≡ old.marks)
 
@@ -206,19 +273,23 @@ MakesOfDatagram tunnel from bytes room (Some end) None arrival = (size : ℕ) ×
     × (arrival ≡ Frame (record { end = end; size = size }))
 
 -- what it makes of what it got
-abbrev pub MakesOf : Tunnel → List SocketAddrV4 → Got → List ℕ → List ℕ → Arrival → Type 0
-MakesOf tunnel ends (Ok (Some came)) buffer room arrival =
-    MakesOfDatagram tunnel came.1 (take came.0 buffer) room (end_at_place tunnel came.1 ends) (tunnel_fault tunnel (take came.0 buffer)) arrival
-MakesOf tunnel ends (Ok None) buffer room arrival = arrival ≡ Nothing
-MakesOf tunnel ends (Err _) buffer room arrival = arrival ≡ Failed
+abbrev pub MakesOf : Tunnel → Remotes → Got → List ℕ → List ℕ → Arrival → Type 0
+MakesOf tunnel remotes (Ok (Some came)) buffer room arrival =
+    MakesOfDatagram tunnel came.1 (take came.0 buffer) room (end_from tunnel came.1 remotes) (tunnel_fault tunnel (take came.0 buffer)) arrival
+MakesOf tunnel remotes (Ok None) buffer room arrival = arrival ≡ Nothing
+MakesOf tunnel remotes (Err _) buffer room arrival = arrival ≡ Failed
 
 -- it was asked into a buffer of the room's, or of its own. Each failure is counted, and what it drops
 abbrev pub AsksSocket : EthernetSocket → List ℕ → Arrival → EthernetSocket → ℕ → ℕ → Type 0
 AsksSocket old room arrival new faults faults_after = (got : Got) × (buffer : List ℕ) × (after : PlacedSocket)
     × IsBufferOf old.tunnel buffer room
     × TriesToReceive got buffer old.socket after faults faults_after
-    × (new ≡ record old { socket = after; drops = drops_after old.tunnel old.ends.items got buffer old.drops })
-    × MakesOf old.tunnel old.ends.items got buffer room arrival
+    × (new ≡ record old {
+      socket = after;
+      drops = drops_after old.tunnel old.remotes got buffer old.drops;
+      remotes = remotes_after old.tunnel got buffer old.remotes;
+    })
+    × MakesOf old.tunnel old.remotes got buffer room arrival
 
 -- a frame is of a remote, and no longer than the room
 abbrev pub IsArrivalWithin : ℕ → ℕ → Arrival → Type 0

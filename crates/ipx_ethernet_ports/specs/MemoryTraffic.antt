@@ -1,5 +1,5 @@
 -- What sockets in memory record.
-use Rattle.std.specs.Prelude.{ℕ, List, map}
+use Rattle.std.specs.Prelude.{List, map}
 use Rattle.ipx_ethernet_ports.specs.declared.memory.MemoryEnds.{MemoryEnds}
 use Rattle.ipx_ethernet_ports.specs.declared.memory.MemoryFrame.{MemoryFrame}
 use Rattle.ipx_ethernet_ports.specs.EndTraffic.{EndFrame, EndTraffic}

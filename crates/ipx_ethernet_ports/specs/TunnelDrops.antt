@@ -1,5 +1,5 @@
 -- How a port counts the datagrams of its remotes that have no frame in its tunnel. Defined by this project.
-use Rattle.std.specs.Prelude.{ℕ, ◌+◌, Option, Some, None}
+use Rattle.std.specs.Prelude.{ℕ, ◌+◌, Some, None}
 use Rattle.std.specs.declared.net.socket_addr.SocketAddr.{SocketAddr}
 use Rattle.ipx_carrier.specs.Counting.{counted, raised}
 use Rattle.ipx_tunnels.specs.declared.fault.TunnelFault.{TunnelFault}

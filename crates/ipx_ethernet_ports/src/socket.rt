@@ -1,10 +1,11 @@
 //! The UDP socket of an Ethernet port: each datagram carries one Ethernet frame.
 
-ghost use Rattle.std.specs.Prelude.{◌≡◌, ◌<◌, ◌≤◌, ◌+◌, IfSome, OnErr, OnOk, Some, false, length, slice_get, true};
+ghost use Rattle.std.specs.Prelude.{◌≡◌, ◌≤◌, ◌+◌, OnErr, OnOk, Some, false, length, true};
 ghost use Rattle.ipx_tunnels.specs.TunnelFaults.{tunnel_fault};
-ghost use Rattle.ipx_ethernet_ports.specs.EthernetAddresses.{AsksSocket, IsArrivalWithin, MakesOfDatagram, drops_of, end_at_place, frame_refused, frame_sent, is_any_port, is_place, is_plain, tunnel_drops};
+ghost use Rattle.ipx_ethernet_ports.specs.EthernetAddresses.{AsksSocket, IsArrivalWithin, MakesOfDatagram, drops_of, frame_refused, frame_sent, is_plain, remote_count, remotes_of, tunnel_drops};
 
 use crate::end_sockets::FrameCame;
+use crate::remotes::Remotes;
 use crate::taking::put_front;
 use crate::tunnel_drops::TunnelDrops;
 use ipx_carrier::PlacedSocket;
@@ -16,12 +17,12 @@ use std::net::{SocketAddr, SocketAddrV4};
 /// The size of the buffer in which the datagrams of a tunnel are made and received.
 const DATAGRAM_ROOM: usize = 2048;
 
-/// The socket of a port, the addresses of its remotes, how frames are carried, and what was
-/// dropped as it had no frame.
+/// The socket of a port, its remotes, how frames are carried, and what was dropped as it had no
+/// frame.
 #[derive(Drop)]
 pub struct EthernetSocket {
     pub socket: PlacedSocket,
-    pub ends: Vec<SocketAddrV4>,
+    pub remotes: Remotes,
     pub tunnel: Tunnel,
     pub drops: TunnelDrops,
 }
@@ -46,34 +47,6 @@ fn is_plain(tunnel: Tunnel) -> bool
     ensures { result ≡ is_plain tunnel }
 {
     matches!(tunnel, Tunnel::Plain)
-}
-
-/// Whether a remote may send from any UDP port.
-fn is_any_port(tunnel: Tunnel) -> bool
-    ensures { result ≡ is_any_port tunnel }
-{
-    matches!(tunnel, Tunnel::Vxlan(_))
-}
-
-/// Whether what a remote at this address sends by the tunnel comes from this address. In VXLAN the
-/// UDP port may be any.
-fn is_at(tunnel: Tunnel, place: &SocketAddrV4, from: SocketAddr) -> bool
-    ensures { result ≡ is_place tunnel from place.now }
-{
-    match from {
-        SocketAddr::V4(from) => {
-            place.ip() == from.ip() && (is_any_port(tunnel) || place.port() == from.port())
-        }
-        SocketAddr::V6(_) => false,
-    }
-}
-
-/// The remote from which a datagram came.
-fn end_at(tunnel: Tunnel, ends: &[SocketAddrV4], from: SocketAddr) -> Option<usize>
-    ensures first { result ≡ end_at_place tunnel from ends.now }
-    ensures there { IfSome result (λ end. end < length ends.now) }
-{
-    ends.iter().position(|place| is_at(tunnel, place, from))
 }
 
 /// Sends a frame in a datagram of the tunnel. If it is too long, the system is not asked.
@@ -106,23 +79,17 @@ impl EthernetSocket {
         }
     }
 
-    /// Sends a frame to a remote. The error is the system's, or the frame is too long for the
-    /// tunnel. Nothing is then sent.
-    ///
-    /// The remote must exist.
-    pub fn send(&mut self, end: usize, bytes: &[u8]) -> io::Result<()>
-        requires { end < length self.old.ends.items }
-        ensures sent { OnOk result (IfSome (slice_get self.old.ends.items end) (λ to.
-            self.new ≡ record self.old {
-              socket = frame_sent self.old.tunnel to bytes.now self.old.socket;
-            })) }
-        ensures refused { OnErr result (IfSome (slice_get self.old.ends.items end) (λ to.
-            self.new ≡ record self.old {
-              socket = frame_refused self.old.tunnel to bytes.now self.old.socket;
-            })) }
-        ensures ends { self.new.ends ≡ self.old.ends }
+    /// Sends a frame to the place of a remote. The error is the system's, or the frame is too long
+    /// for the tunnel. Nothing is then sent.
+    pub fn send(&mut self, to: SocketAddrV4, bytes: &[u8]) -> io::Result<()>
+        ensures sent { OnOk result (self.new ≡ record self.old {
+          socket = frame_sent self.old.tunnel to bytes.now self.old.socket;
+        }) }
+        ensures refused { OnErr result (self.new ≡ record self.old {
+          socket = frame_refused self.old.tunnel to bytes.now self.old.socket;
+        }) }
+        ensures remotes { self.new.remotes ≡ self.old.remotes }
     {
-        let to = self.ends[end];
         if is_plain(self.tunnel) {
             self.socket.send_to(to, bytes)
         } else {
@@ -131,7 +98,8 @@ impl EthernetSocket {
     }
 
     /// Takes the frame of a datagram that a remote sent by the tunnel, and puts as much of it as
-    /// fits into the room. A datagram without a frame is counted.
+    /// fits into the room. A remote that is learned is then there. A datagram without a frame is
+    /// counted.
     fn take_frame(
         &mut self,
         end: usize,
@@ -143,6 +111,8 @@ impl EthernetSocket {
             (tunnel_fault self.old.tunnel datagram.now) result }
         ensures drops { self.new ≡ record self.old {
           drops = drops_of from (Some end) (tunnel_fault self.old.tunnel datagram.now) self.old.drops;
+          remotes = remotes_of from (Some end) (tunnel_fault self.old.tunnel datagram.now)
+              self.old.remotes;
         } }
         ensures there { IsArrivalWithin (end + 1) (length room.old) result }
         ensures room { length room.new ≡ length room.old }
@@ -150,6 +120,7 @@ impl EthernetSocket {
         match self.tunnel.strip(datagram) {
             Ok(frame) => {
                 let size = put_front(frame, room);
+                self.remotes.learn(from);
                 Arrival::Frame(FrameCame { end, size })
             }
             Err(fault) => {
@@ -163,13 +134,13 @@ impl EthernetSocket {
     fn receive_in_tunnel(&mut self, room: &mut [u8], faults: &mut u64) -> Arrival
         requires { is_plain self.old.tunnel ≡ false }
         ensures asks { AsksSocket self.old room.new result self.new faults.old faults.new }
-        ensures there { IsArrivalWithin (length self.old.ends.items) (length room.old) result }
+        ensures there { IsArrivalWithin (remote_count self.old.remotes) (length room.old) result }
         ensures room { length room.new ≡ length room.old }
         ensures faults { faults.old ≤ faults.new }
     {
         let mut datagram = [0; DATAGRAM_ROOM];
         match self.socket.receive_in_tries(&mut datagram, faults) {
-            Ok(Some((size, from))) => match end_at(self.tunnel, &self.ends, from) {
+            Ok(Some((size, from))) => match self.remotes.end_from(self.tunnel, from) {
                 Some(end) => self.take_frame(end, from, &datagram[..size], room),
                 None => Arrival::Unknown(from),
             },
@@ -182,13 +153,16 @@ impl EthernetSocket {
     fn receive_plain(&mut self, room: &mut [u8], faults: &mut u64) -> Arrival
         requires { is_plain self.old.tunnel ≡ true }
         ensures asks { AsksSocket self.old room.new result self.new faults.old faults.new }
-        ensures there { IsArrivalWithin (length self.old.ends.items) (length room.old) result }
+        ensures there { IsArrivalWithin (remote_count self.old.remotes) (length room.old) result }
         ensures room { length room.new ≡ length room.old }
         ensures faults { faults.old ≤ faults.new }
     {
         match self.socket.receive_in_tries(room, faults) {
-            Ok(Some((size, from))) => match end_at(self.tunnel, &self.ends, from) {
-                Some(end) => Arrival::Frame(FrameCame { end, size }),
+            Ok(Some((size, from))) => match self.remotes.end_from(self.tunnel, from) {
+                Some(end) => {
+                    self.remotes.learn(from);
+                    Arrival::Frame(FrameCame { end, size })
+                }
                 None => Arrival::Unknown(from),
             },
             Ok(None) => Arrival::Nothing,
@@ -200,10 +174,10 @@ impl EthernetSocket {
     /// failure is counted.
     pub fn receive(&mut self, room: &mut [u8], faults: &mut u64) -> Arrival
         ensures asks { AsksSocket self.old room.new result self.new faults.old faults.new }
-        ensures there { IsArrivalWithin (length self.old.ends.items) (length room.old) result }
+        ensures there { IsArrivalWithin (remote_count self.old.remotes) (length room.old) result }
         ensures room { length room.new ≡ length room.old }
         ensures faults { faults.old ≤ faults.new }
-        ensures ends { self.new.ends ≡ self.old.ends }
+        ensures count { remote_count self.new.remotes ≡ remote_count self.old.remotes }
     {
         if is_plain(self.tunnel) {
             self.receive_plain(room, faults)

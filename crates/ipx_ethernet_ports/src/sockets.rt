@@ -1,13 +1,14 @@
 //! UDP sockets for Ethernet ports.
 
-ghost use Rattle.std.specs.Prelude.{◌≡◌, ◌<◌, ◌≤◌, ◌++◌, ◌∷◌, [], IfOk, IfSome, IsSome, None, Ok, OnErr, OnOk, Some, false, is_some, length, slice_get, slice_index, slice_set, true};
+ghost use Rattle.std.specs.Prelude.{◌≡◌, ◌⊎◌, ◌<◌, ◌≤◌, ◌++◌, ◌∷◌, [], IfOk, IfSome, IsSome, None, Ok, OnErr, OnOk, Some, false, is_some, length, slice_get, slice_index, slice_set, true};
 ghost use Rattle.ipx_carrier.specs.Counting.{raised};
 ghost use Rattle.ipx_carrier.specs.Readiness.{AsksPortWithMark};
 ghost use Rattle.ipx_carrier.specs.ReadySet.{is_port_marked};
 ghost use Rattle.ipx_ethernet_ports.specs.EndTraffic.{failures_counted, frame_at};
-ghost use Rattle.ipx_ethernet_ports.specs.EthernetAddresses.{AsksMarkedPort, RefusesFrame, SendsByEthernetSockets, SendsFrame, bound_places, ethernet_events, ethernet_fds, place_of_sender, remote_counts, remote_places, remote_tunnels, tunnel_drops};
+ghost use Rattle.ipx_ethernet_ports.specs.EthernetAddresses.{AsksMarkedPort, KnowsNoPlace, RefusesFrame, SendsByEthernetSockets, SendsFrame, bound_places, ethernet_events, ethernet_fds, is_learned, known_places, learning_sockets, place_of_end, place_of_sender, remote_count, remote_counts, remote_places, remote_tunnels, sent_counted, tunnel_drops};
 
 use crate::end_sockets::{EndSockets, FrameCame};
+use crate::remotes::Remotes;
 use crate::socket::{Arrival, EthernetSocket};
 use crate::tunnel_drops::TunnelDrops;
 use ipx_carrier::{DeviceFault, PlacedSocket, ReadySet, saturating_increment};
@@ -23,7 +24,7 @@ use std::os::fd::{AsRawFd, RawFd};
 /// not handed over, but counted. A datagram of a remote that has no frame is counted at the port.
 ///
 /// A remote is an IP address and a UDP port. If the tunnel is VXLAN, what comes from any port of the
-/// IP address is of the remote.
+/// IP address is of the remote. A remote that is learned is wherever its last frame came from.
 ///
 /// Which frames arrive depends on the network. What the system doesn't take is a failure of `send`;
 /// `receive` never fails.
@@ -78,15 +79,17 @@ impl EthernetSockets {
         &mut self,
         rt: &R,
         at: SocketAddrV4,
-        ends: Vec<SocketAddrV4>,
+        remotes: Remotes,
         tunnel: Tunnel,
     ) -> io::Result<()>
         ensures at { OnOk result (bound_places self.new.ethernet.items
             ≡ bound_places self.old.ethernet.items ++ at ∷ []) }
         ensures bound { OnOk result (remote_counts self.new.ethernet.items
-            ≡ remote_counts self.old.ethernet.items ++ length ends.items ∷ []) }
+            ≡ remote_counts self.old.ethernet.items ++ remote_count remotes ∷ []) }
         ensures places { OnOk result (remote_places self.new.ethernet.items
-            ≡ remote_places self.old.ethernet.items ++ ends.items ∷ []) }
+            ≡ remote_places self.old.ethernet.items ++ known_places remotes ∷ []) }
+        ensures learned { OnOk result (learning_sockets self.new.ethernet.items
+            ≡ learning_sockets self.old.ethernet.items ++ is_learned remotes ∷ []) }
         ensures tunnels { OnOk result (remote_tunnels self.new.ethernet.items
             ≡ remote_tunnels self.old.ethernet.items ++ tunnel ∷ []) }
         // The new socket was asked nothing, and the others were asked nothing more.
@@ -100,7 +103,7 @@ impl EthernetSockets {
         let drops = TunnelDrops::new();
         let wire = EthernetSocket {
             socket,
-            ends,
+            remotes,
             tunnel,
             drops,
         };
@@ -209,7 +212,7 @@ impl EndSockets for EthernetSockets {
     }
 
     fn ends(&self, port: usize) -> usize {
-        self.ethernet[port].ends.len()
+        self.ethernet[port].remotes.count()
     }
 
     fn failures(&self) -> u64 {
@@ -223,16 +226,18 @@ impl EndSockets for EthernetSockets {
     fn send(&mut self, port: usize, end: usize, bytes: &[u8]) -> Result<(), DeviceFault>
         requires there { port < length (remote_counts self.old.ethernet.items) }
         requires end { end < slice_index (remote_counts self.old.ethernet.items) port }
-        // The port's socket was asked to send the bytes to the address of the remote. The system
-        // took them, or refused them.
+        // The port's socket was asked to send the bytes to the place of the remote. The system
+        // took them, or refused them. If no place is known yet, it was not asked.
         ensures to { OnOk result (SendsFrame port end bytes.now self.old.ethernet.items
-            self.new.ethernet.items) }
+            self.new.ethernet.items
+            ⊎ KnowsNoPlace port end self.old.ethernet.items self.new.ethernet.items) }
         ensures nowhere { OnErr result (RefusesFrame port end bytes.now self.old.ethernet.items
             self.new.ethernet.items) }
         ensures sends { SendsByEthernetSockets self.old (frame_at port bytes.now end) self.new }
         ensures ends { remote_counts self.new.ethernet.items ≡ remote_counts self.old.ethernet.items }
         // The system took it or refused it, and that is counted.
-        ensures sent { OnOk result (self.new.sent ≡ raised self.old.sent) }
+        ensures sent { OnOk result (IfSome (slice_get self.old.ethernet.items port) (λ w.
+            self.new.sent ≡ sent_counted (place_of_end w.remotes end) self.old.sent)) }
         ensures refused { OnErr result (self.new.sent ≡ self.old.sent) }
         ensures failures { self.new.failures ≡ failures_counted result self.old.failures }
         ensures rest { (self.new.faults ≡ self.old.faults)
@@ -240,7 +245,10 @@ impl EndSockets for EthernetSockets {
             × (self.new.unknown_senders ≡ self.old.unknown_senders)
             × (self.new.last_unknown ≡ self.old.last_unknown) × (self.new.marks ≡ self.old.marks) }
     {
-        if self.ethernet[port].send(end, bytes).is_err() {
+        let Some(to) = self.ethernet[port].remotes.place(end) else {
+            return Ok(());
+        };
+        if self.ethernet[port].send(to, bytes).is_err() {
             saturating_increment(&mut self.failures);
             return Err(DeviceFault);
         }
@@ -257,7 +265,7 @@ impl EndSockets for EthernetSockets {
         // eight times. Each failure is counted. The mark is cleared exactly if nothing waits. What
         // came from a remote is returned. What came from an unknown sender is counted, and its
         // address is the last unknown one. What a remote sent that has no frame is counted at the
-        // port.
+        // port. A frame, and nothing else, shows where a remote that is learned is.
         ensures marked { is_port_marked self.old.marks port ≡ true → IfOk result (λ answer.
             AsksMarkedPort port answer room.new self.old self.new) }
         ensures marks { IfOk result (λ answer. AsksPortWithMark port (is_some answer)

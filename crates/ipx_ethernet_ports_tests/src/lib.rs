@@ -7,6 +7,8 @@ mod circle;
 #[cfg(test)]
 mod fixture;
 #[cfg(test)]
+mod learned;
+#[cfg(test)]
 mod refused;
 #[cfg(test)]
 mod running;

@@ -2,7 +2,7 @@
 
 use crate::fixture::{FIRST, PACKET, PORT, SECOND, ethernet, frame};
 use ipx_carrier::{DeviceFault, PacketSent, PortDriver, PortDriverFilters};
-use ipx_ethernet_ports::{EndSockets, EthernetPorts, EthernetSockets, FrameCame};
+use ipx_ethernet_ports::{EndSockets, EthernetPorts, EthernetSockets, FrameCame, Remotes};
 use ipx_tunnels::Tunnel;
 use ipx_wire::Node;
 use std::alloc::Global;
@@ -25,7 +25,7 @@ fn bound<R: Net>(
 ) -> io::Result<EthernetSockets> {
     let mut sockets = EthernetSockets::new(alloc);
     let ends = ends.to_vec(alloc)?;
-    sockets.bind(rt, at, ends, Tunnel::Plain)?;
+    sockets.bind(rt, at, Remotes::Fixed(ends), Tunnel::Plain)?;
     Ok(sockets)
 }
 
@@ -139,7 +139,7 @@ fn a_place_in_use_is_refused(rt: HostRuntime) -> Result<(), Fail> {
     let ends = Vec::new(alloc);
     assert!(rt;
         sockets
-            .bind(&rt, place(20_926), ends, Tunnel::Plain)
+            .bind(&rt, place(20_926), Remotes::Fixed(ends), Tunnel::Plain)
             .is_err()
     );
     assert_eq!(rt; sockets.ports(), 1);

@@ -2,7 +2,7 @@
 //! send and receive datagrams as they are.
 
 use ipx_carrier::DeviceFault;
-use ipx_ethernet_ports::{EndSockets, EthernetSockets, FrameCame, TunnelDrops};
+use ipx_ethernet_ports::{EndSockets, EthernetSockets, FrameCame, Remotes, TunnelDrops};
 use ipx_tunnels::{Cookie, Session, Tunnel, TunnelFault, Vni};
 use std::alloc::Global;
 use std::io;
@@ -35,7 +35,7 @@ fn bound<R: Net>(
 ) -> io::Result<EthernetSockets> {
     let mut sockets = EthernetSockets::new(alloc);
     let ends = ends.to_vec(alloc)?;
-    sockets.bind(rt, at, ends, tunnel)?;
+    sockets.bind(rt, at, Remotes::Fixed(ends), tunnel)?;
     Ok(sockets)
 }
 
