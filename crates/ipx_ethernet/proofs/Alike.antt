@@ -1,7 +1,7 @@
 -- Frames with the same addresses are forwarded alike, and leave the switch the same.
 use Rattle.std.proofs.Common.{◌≡◌, ℕ, List, true, length, take, drop, refl, sym, ap, ◌∙◌, arith}
 use Rattle.std.proofs.lemmas.List.{drop-take, take-take}
-use Rattle.ipx_ethernet.specs.Heard.{SwitchView, switch_passing, may_pass, way_after}
+use Rattle.ipx_ethernet.specs.Heard.{SwitchView, apart_from_notices, switch_passing, may_pass, way_after}
 
 -- the addresses are the first twelve bytes
 to_in : (bytes : List ℕ) → take 6 bytes ≡ take 6 (take 12 bytes)
@@ -17,7 +17,7 @@ from_alike : (bytes other : List ℕ) → take 12 bytes ≡ take 12 other → ta
 from_alike bytes other same = from_in bytes ∙ ap (drop 6) same ∙ sym (from_in other)
 
 pub switch_alike : (h : SwitchView) (bytes other : List ℕ) (end now : ℕ) → take 12 bytes ≡ take 12 other → may_pass (length bytes) ≡ true → may_pass (length other) ≡ true
-    → switch_passing h bytes end now ≡ switch_passing h other end now
+    → apart_from_notices (switch_passing h bytes end now) ≡ apart_from_notices (switch_passing h other end now)
 switch_alike h bytes other end now same one two =
     rw (one, two, to_alike bytes other same, from_alike bytes other same) refl
 

@@ -8,4 +8,5 @@ pub mod Alike
 pub mod Back
 pub mod Goes
 pub mod Known
+pub mod Noticed
 pub mod Room

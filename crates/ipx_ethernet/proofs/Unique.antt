@@ -9,13 +9,13 @@ use Rattle.ipx_ethernet.specs.Frame.{FrameView, IsFrame, length_or_type}
 use Rattle.ipx_ethernet.proofs.Packets.{checksum_more}
 
 -- what names an encapsulation: the length or type, and the two bytes after it
-Says : Encapsulation → ℕ → ℕ → Type 0
+unfoldable pub Says : Encapsulation → ℕ → ℕ → Type 0
 Says Raw n m = (n ≤ 1500) × (m ≡ 0xffff)
 Says Llc n m = (n ≤ 1500) × (m ≡ 0xe0e0)
 Says Snap n m = (n ≤ 1500) × (m ≡ 0xaaaa)
 Says EthernetII n m = (n ≡ 0x8137) × (m ≡ m)
 
-same_said : (d e : Encapsulation) (n m : ℕ) → Says d n m → Says e n m → d ≡ e
+pub same_said : (d e : Encapsulation) (n m : ℕ) → Says d n m → Says e n m → d ≡ e
 unfolding Says
 same_said Raw Raw n m p q = refl
 same_said Raw Llc n m p q = absurd (omega (arith, p.1, q.1))
@@ -34,7 +34,7 @@ same_said EthernetII Llc n m p q = absurd (omega (arith, p.0, q.0))
 same_said EthernetII Snap n m p q = absurd (omega (arith, p.0, q.0))
 same_said EthernetII EthernetII n m p q = refl
 
-says : (e : Encapsulation) (f : FrameView) (bytes tail : List ℕ) → IsFrame e f bytes tail → Says e (length_or_type bytes) (number 2 0 (drop 14 bytes))
+pub says : (e : Encapsulation) (f : FrameView) (bytes tail : List ℕ) → IsFrame e f bytes tail → Says e (length_or_type bytes) (number 2 0 (drop 14 bytes))
 unfolding Says
 says Raw f bytes tail x = (x.kind.kind, ap (number 2 0) x.held ∙ checksum_more x.packet.0 f.packet tail x.packet.1)
 says Llc f bytes tail x = (x.kind.kind, sym (big_from-take 0 2 3 (drop 14 bytes) (omega arith)) ∙ ap (number 2 0) x.kind.link)

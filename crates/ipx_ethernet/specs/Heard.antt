@@ -1,5 +1,5 @@
 -- What a switch does with a frame that came from a remote. Defined by this project.
-use Rattle.std.specs.Prelude.{ℕ, List, [], take, drop, length, replicate, Bool, not, ◌&&◌, ◌||◌, Option, nat_le, if◌then◌else◌}
+use Rattle.std.specs.Prelude.{ℕ, List, [], take, drop, length, replicate, Bool, not, ◌&&◌, ◌||◌, Option, None, nat_le, if◌then◌else◌}
 use Rattle.std.specs.Str.{bytes_eq}
 use Rattle.ipx_wire.specs.declared.address.Node.{Node}
 use Rattle.ipx_ethernet.specs.declared.ethernet_port.FrameDrop.{FrameDrop}
@@ -7,14 +7,18 @@ use Rattle.ipx_ethernet.specs.declared.ethernet_port.EthernetPort.{EthernetPort}
 use Rattle.ipx_ethernet.specs.declared.frame_counters.FrameCounters.{FrameCounters}
 use Rattle.ipx_ethernet.specs.Frame.{is_group}
 use Rattle.ipx_ethernet.specs.FrameFault.{node_of}
+use Rattle.ipx_ethernet.specs.declared.notices.Notices.{Notices}
+use Rattle.ipx_ethernet.specs.declared.notices.StationMove.{StationMove}
+use Rattle.ipx_ethernet.specs.Notices.{frame_noticed, move_noticed, no_notices, notice_in}
 use Rattle.ipx_ethernet.specs.PortFrames.{frame_counted, frames_raised, no_frames}
 use Rattle.ipx_ethernet.specs.declared.egress.Egress.{Egress}
 use Rattle.ipx_ethernet.specs.declared.egress.Egress.TheVariants.{Nowhere, ToOne, ToAll, ToOthers}
 use Rattle.ipx_ethernet.specs.declared.mac_table.Station.{Station}
-use Rattle.ipx_ethernet.specs.SwitchEnds.{end_of_station, stations_with, way_out, way_past}
+use Rattle.ipx_ethernet.specs.SwitchEnds.{end_of_station, move_of, stations_with, way_out, way_past}
 
--- a switch: its port, whether its remotes are joined, the stations known, and its counts. These are of
--- received frames, of frames that were to be forwarded, and of packets of the core that did not fit a frame
+-- a switch: its port, whether its remotes are joined, the stations known, its counts, and what it noticed. The
+-- counts are of received frames, of frames that were to be forwarded, and of packets of the core that did not
+-- fit a frame
 pub record SwitchView : Type 0 where
   pub port : EthernetPort
   pub joined : Bool
@@ -22,6 +26,7 @@ pub record SwitchView : Type 0 where
   pub counts : FrameCounters
   pub passed : ℕ
   pub refused : ℕ
+  pub notices : Notices
 
 -- nothing was received yet
 abbrev pub new_switch : EthernetPort → Bool → SwitchView
@@ -32,6 +37,7 @@ new_switch port joined = record {
   counts = no_frames;
   passed = 0;
   refused = 0;
+  notices = no_notices;
 }
 
 -- this many bytes may be forwarded: no fewer than the addresses and the length or type. No more than a full
@@ -99,11 +105,37 @@ abbrev pub switch_knowing : SwitchView → List ℕ → ℕ → ℕ → SwitchVi
 switch_knowing h bytes end now =
     record h { stations = stations_after h.port.own bytes end now h.stations }
 
--- the switch after a frame from a remote: its source is known, and it is counted if it is to be forwarded
-abbrev pub switch_passing : SwitchView → List ℕ → ℕ → ℕ → SwitchView
-switch_passing h bytes end now = record (switch_knowing h bytes end now) {
+-- the move of a frame's source, if a station may have it
+abbrev pub move_by : Node → Node → ℕ → ℕ → List Station → Option StationMove
+move_by own from end now known =
+    if may_be_station own from then move_of from end now known else None
+
+-- the same for bytes
+abbrev pub move_in : Node → List ℕ → ℕ → ℕ → List Station → Option StationMove
+move_in own bytes end now known =
+    if may_pass (length bytes) then move_by own (station_from bytes) end now known else None
+
+-- what a frame from a remote shows is noticed
+abbrev pub switch_noticing : SwitchView → List ℕ → ℕ → ℕ → SwitchView
+switch_noticing h bytes end now = record h {
+  notices = frame_noticed (notice_in h.port bytes end)
+      (move_noticed (move_in h.port.own bytes end now h.stations) h.notices);
+}
+
+-- its source is known, and it is counted if it is to be forwarded
+abbrev pub switch_forwarding : SwitchView → List ℕ → ℕ → ℕ → SwitchView
+switch_forwarding h bytes end now = record (switch_knowing h bytes end now) {
   passed = passed_with (way_after (switch_knowing h bytes end now) bytes end now) h.passed;
 }
+
+-- the switch after a frame from a remote
+abbrev pub switch_passing : SwitchView → List ℕ → ℕ → ℕ → SwitchView
+switch_passing h bytes end now =
+    switch_forwarding (switch_noticing h bytes end now) bytes end now
+
+-- a switch apart from what it noticed
+abbrev pub apart_from_notices : SwitchView → SwitchView
+apart_from_notices h = record h { notices = no_notices }
 
 -- one more frame whose packet went to the core, and one that was kept from it: only its count changes
 abbrev pub switch_handing : SwitchView → SwitchView

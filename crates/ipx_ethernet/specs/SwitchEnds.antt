@@ -5,6 +5,7 @@ use Rattle.ipx_wire.specs.declared.address.Node.{Node}
 use Rattle.ipx_ethernet.specs.declared.egress.Egress.{Egress}
 use Rattle.ipx_ethernet.specs.declared.egress.Egress.TheVariants.{Nowhere, ToOne, ToAll, ToOthers}
 use Rattle.ipx_ethernet.specs.declared.mac_table.Station.{Station}
+use Rattle.ipx_ethernet.specs.declared.notices.StationMove.{StationMove}
 
 -- how many stations are known at most, and for how many ms each
 abbrev pub max_stations : ℕ
@@ -35,6 +36,20 @@ end_while_young now (Some s) =
 -- the remote at which a station is known
 abbrev pub end_of_station : Node → ℕ → List Station → Option ℕ
 end_of_station node now known = end_while_young now (find (is_at node) known)
+
+-- a station that is heard at a remote was heard at another less than so many ms ago
+abbrev pub moving_time : ℕ
+moving_time = 1000
+
+abbrev pub move_from : Option Station → Node → ℕ → ℕ → Option StationMove
+move_from None node end now = None
+move_from (Some s) node end now =
+    if nat_le s.moment now && nat_lt (now - s.moment) moving_time && not (s.end == end)
+    then Some (record { node = node; before = s.end; after = end })
+    else None
+
+abbrev pub move_of : Node → ℕ → ℕ → List Station → Option StationMove
+move_of node end now known = move_from (find (is_at node) known) node end now
 
 -- where the port's own frame is sent, if its destination is known at a remote, or not known
 abbrev pub way_out : Option ℕ → Egress

@@ -14,8 +14,10 @@ mod ethernet_port;
 mod fault;
 mod frame;
 mod frame_counters;
+mod frame_notice;
 mod laws;
 mod mac_table;
+mod notices;
 mod packet;
 mod passing;
 mod reading;
@@ -35,6 +37,7 @@ pub use laws::{
     sent_raw_frame_is_even,
 };
 pub use mac_table::{AGEING_TIME_MS, MAX_STATIONS, Station};
+pub use notices::{Claim, Notices, Sender, StationMove};
 pub use passing::MAX_FORWARDED_SIZE;
 pub use reading::decode_frame;
 pub use stations::stations_of;

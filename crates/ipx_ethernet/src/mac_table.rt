@@ -2,8 +2,9 @@
 
 ghost use Rattle.std.specs.Prelude.{◌≡◌, ◌≤◌, ◌<◌, ◌+◌, ◌-◌, [], List, IfOk, drop, length, filter, find, not, option_copied};
 ghost use Rattle.std.specs.Vec.{vec_capacity, vec_len};
-ghost use Rattle.ipx_ethernet.specs.SwitchEnds.{end_of_station, is_at, max_stations, stations_with};
+ghost use Rattle.ipx_ethernet.specs.SwitchEnds.{end_of_station, is_at, max_stations, move_of, stations_with};
 
+use crate::notices::StationMove;
 use ipx_wire::Node;
 use std::alloc::{AllocError, Global};
 use std::marker::Model;
@@ -13,6 +14,9 @@ pub const MAX_STATIONS: usize = 1024;
 
 /// For how many milliseconds a station is known after its last frame.
 pub const AGEING_TIME_MS: u64 = 300_000;
+
+/// A station that is heard at two remotes within so many milliseconds has moved too fast.
+const MOVING_TIME_MS: u64 = 1000;
 
 /// A station that was heard.
 #[derive(Clone, Copy, Debug, PartialEq, Eq)]
@@ -110,5 +114,21 @@ impl MacTable {
             return None;
         }
         Some(station.end)
+    }
+
+    /// Says if a station that is now heard at a remote was at another one less than a second ago.
+    pub fn move_of(&self, node: Node, end: usize, now: u64) -> Option<StationMove>
+        ensures { result ≡ move_of node end now self.now }
+    {
+        let station = station_of(&self.known, node)?;
+        let age = now.checked_sub(station.moment)?;
+        if age >= MOVING_TIME_MS || station.end == end {
+            return None;
+        }
+        Some(StationMove {
+            node,
+            before: station.end,
+            after: end,
+        })
     }
 }

@@ -2,10 +2,11 @@
 
 ghost use Rattle.std.specs.Prelude.{◌≡◌, ◌==◌, IfSome, is_some, length};
 ghost use Rattle.ipx_ethernet.specs.Frame;
-ghost use Rattle.ipx_ethernet.specs.Heard.{may_be_station, may_pass, passed_with, station_from, station_to, stations_from, way_between};
+ghost use Rattle.ipx_ethernet.specs.Heard.{may_be_station, may_pass, move_by, passed_with, station_from, station_to, stations_from, way_between};
 
 use crate::egress::{Egress, flood_except};
 use crate::mac_table::{MacTable, Station};
+use crate::notices::StationMove;
 use crate::stations::stations_of;
 use ipx_wire::Node;
 
@@ -57,6 +58,22 @@ pub fn learn(stations: &mut MacTable, own: Node, from: Node, end: usize, now: u6
             moment: now,
         });
     }
+}
+
+/// The move of a frame's source address, if a station may have it.
+pub fn move_by(
+    stations: &MacTable,
+    own: Node,
+    from: Node,
+    end: usize,
+    now: u64,
+) -> Option<StationMove>
+    ensures { result ≡ move_by own from end now stations.now }
+{
+    if !may_be_there(own, from) {
+        return None;
+    }
+    stations.move_of(from, end, now)
 }
 
 /// Where a frame from a remote is forwarded, if its destination is known at a remote, or not known.

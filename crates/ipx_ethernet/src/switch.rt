@@ -5,7 +5,7 @@ ghost use Rattle.ipx_wire.specs.Ipx.{IsPartOf, number};
 ghost use Rattle.ipx_ethernet.specs.Frame.{frame_of, own_bytes, packet_place};
 ghost use Rattle.ipx_ethernet.specs.SentFrame.{IsSentFrame, sending_fault, sent_size};
 ghost use Rattle.ipx_ethernet.specs.PortFrames.{IsForCore, KeepsFrame};
-ghost use Rattle.ipx_ethernet.specs.Heard.{SwitchView, switch_handing, switch_keeping, switch_knowing, switch_passing, switch_refusing, new_switch};
+ghost use Rattle.ipx_ethernet.specs.Heard.{SwitchView, switch_handing, switch_keeping, switch_knowing, switch_noticing, switch_passing, switch_refusing, new_switch};
 ghost use Rattle.ipx_ethernet.specs.Heard.{way_after, way_of_own};
 ghost use Rattle.ipx_ethernet.specs.SwitchEnds.{is_way_to};
 
@@ -13,8 +13,10 @@ use crate::egress::{Egress, egress_to};
 use crate::ethernet_port::{EthernetPort, FrameDrop};
 use crate::fault::FrameFault;
 use crate::frame_counters::FrameCounters;
+use crate::frame_notice::notice_in;
 use crate::mac_table::{MacTable, Station};
-use crate::passing::{addresses_of, count_passed, forwarding_decision, is_group, learn};
+use crate::notices::Notices;
+use crate::passing::{addresses_of, count_passed, forwarding_decision, is_group, learn, move_by};
 use ipx_wire::Node;
 use std::alloc::{AllocError, Global};
 use std::marker::Model;
@@ -28,6 +30,7 @@ pub struct Switch {
     counts: FrameCounters,
     passed: u64,
     refused: u64,
+    notices: Notices,
 }
 
 impl Model for Switch {
@@ -42,6 +45,7 @@ impl Model for Switch {
       counts = h.counts;
       passed = h.passed;
       refused = h.refused;
+      notices = h.notices;
     } };
 }
 
@@ -59,6 +63,7 @@ impl Switch {
             counts: FrameCounters::new(),
             passed: 0,
             refused: 0,
+            notices: Notices::new(),
         })
     }
 
@@ -96,6 +101,13 @@ impl Switch {
         ensures { result ≡ self.now.refused }
     {
         self.refused
+    }
+
+    /// What it noticed of frames that show a mistake on the segment.
+    pub fn notices(&self) -> Notices
+        ensures { result ≡ self.now.notices }
+    {
+        self.notices
     }
 
     /// Where the port's own frame to a node is sent at time `now`, in ms. A broadcast goes to each
@@ -197,6 +209,17 @@ impl Switch {
         }
     }
 
+    /// Notices what a frame from a remote shows.
+    fn notice(&mut self, end: usize, bytes: &[u8], now: u64)
+        ensures { self.new ≡ switch_noticing self.old bytes.now end now }
+    {
+        if let Some((_, from)) = addresses_of(bytes) {
+            let moved = move_by(&self.stations, self.port.own, from, end, now);
+            self.notices.note_move(moved);
+        }
+        self.notices.note_frame(notice_in(self.port, bytes, end));
+    }
+
     /// Learns the source address of a frame, if a station may have it.
     fn know_sender(&mut self, end: usize, bytes: &[u8], now: u64)
         ensures { self.new ≡ switch_knowing self.old bytes.now end now }
@@ -206,12 +229,13 @@ impl Switch {
         }
     }
 
-    /// Where a frame from a remote is forwarded, once its source is learned. It is counted if it is
-    /// to be forwarded.
+    /// Where a frame from a remote is forwarded, once it is noticed and its source is learned. It is
+    /// counted if it is to be forwarded.
     fn pass(&mut self, end: usize, bytes: &[u8], now: u64) -> Egress
         ensures onward { result ≡ way_after self.new bytes.now end now }
         ensures leaves { self.new ≡ switch_passing self.old bytes.now end now }
     {
+        self.notice(end, bytes, now);
         self.know_sender(end, bytes, now);
         let onward = self.way(end, bytes, now);
         count_passed(&mut self.passed, onward);

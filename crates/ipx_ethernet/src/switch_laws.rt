@@ -4,11 +4,11 @@ ghost use Rattle.std.specs.Prelude.{◌≡◌, ◌<◌, ◌≤◌, ◌+◌, ◌=
 ghost use Rattle.std.specs.Str.{bytes_eq};
 ghost use Rattle.ipx_wire.specs.declared.address.Node.{Node};
 ghost use Rattle.ipx_ethernet.specs.declared.mac_table.Station.{Station};
-ghost use Rattle.ipx_ethernet.specs.Heard.{SwitchView, switch_passing, may_be_station, may_pass, station_from, station_to, way_after};
+ghost use Rattle.ipx_ethernet.specs.Heard.{SwitchView, apart_from_notices, switch_passing, may_be_station, may_pass, station_from, station_to, way_after};
 ghost use Rattle.ipx_ethernet.specs.SwitchEnds.{end_of_station, is_at, is_way_to, max_stations, ageing_time};
 
 /// Two frames with the same addresses are forwarded to the same remotes, and leave the switch the
-/// same, whatever follows the addresses.
+/// same apart from what it noticed, whatever follows the addresses.
 pub fn frames_go_on_whatever_they_hold()
     ensures ends { (h : SwitchView) (bytes other : List ℕ) (end now : ℕ) → take 12 bytes ≡ take 12 other
         → may_pass (length bytes) ≡ true → may_pass (length other) ≡ true
@@ -16,7 +16,8 @@ pub fn frames_go_on_whatever_they_hold()
         ≡ way_after (switch_passing h other end now) other end now }
     ensures switch { (h : SwitchView) (bytes other : List ℕ) (end now : ℕ) → take 12 bytes ≡ take 12 other
         → may_pass (length bytes) ≡ true → may_pass (length other) ≡ true
-        → switch_passing h bytes end now ≡ switch_passing h other end now }
+        → apart_from_notices (switch_passing h bytes end now)
+        ≡ apart_from_notices (switch_passing h other end now) }
 {}
 
 /// These hold if remotes are joined, for a frame between two stations other than the port. If its

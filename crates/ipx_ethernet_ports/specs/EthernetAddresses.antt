@@ -111,6 +111,11 @@ ethernet_fds ethernet = map (λ w. raw_fd_of w.socket) ethernet
 abbrev pub remote_tunnels : List EthernetSocket → List Tunnel
 remote_tunnels ethernet = map (λ w. w.tunnel) ethernet
 
+-- the place of a remote of a port, if it is known
+abbrev pub remote_at : Option EthernetSocket → ℕ → Option SocketAddrV4
+remote_at None end = None
+remote_at (Some w) end = place_of_end w.remotes end
+
 -- what a socket dropped because it had no frame in the tunnel, if it has one
 abbrev pub tunnel_drops : Option EthernetSocket → Option TunnelDrops
 tunnel_drops None = None

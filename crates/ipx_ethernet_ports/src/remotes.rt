@@ -59,10 +59,7 @@ impl Remotes {
     }
 
     /// The place of a remote. None if it is not known yet.
-    ///
-    /// The remote must exist.
     pub(crate) fn place(&self, end: usize) -> Option<SocketAddrV4>
-        requires { end < remote_count self.now }
         ensures { result ≡ place_of_end self.now end }
     {
         match self {

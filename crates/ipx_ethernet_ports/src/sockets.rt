@@ -5,7 +5,7 @@ ghost use Rattle.ipx_carrier.specs.Counting.{raised};
 ghost use Rattle.ipx_carrier.specs.Readiness.{AsksPortWithMark};
 ghost use Rattle.ipx_carrier.specs.ReadySet.{is_port_marked};
 ghost use Rattle.ipx_ethernet_ports.specs.EndTraffic.{failures_counted, frame_at};
-ghost use Rattle.ipx_ethernet_ports.specs.EthernetAddresses.{AsksMarkedPort, KnowsNoPlace, RefusesFrame, SendsByEthernetSockets, SendsFrame, bound_places, ethernet_events, ethernet_fds, is_learned, known_places, learning_sockets, place_of_end, place_of_sender, remote_count, remote_counts, remote_places, remote_tunnels, sent_counted, tunnel_drops};
+ghost use Rattle.ipx_ethernet_ports.specs.EthernetAddresses.{AsksMarkedPort, KnowsNoPlace, RefusesFrame, SendsByEthernetSockets, SendsFrame, bound_places, ethernet_events, ethernet_fds, is_learned, known_places, learning_sockets, place_of_end, place_of_sender, remote_at, remote_count, remote_counts, remote_places, remote_tunnels, sent_counted, tunnel_drops};
 
 use crate::end_sockets::{EndSockets, FrameCame};
 use crate::remotes::Remotes;
@@ -161,6 +161,15 @@ impl EthernetSockets {
     {
         let wire = self.ethernet.get(port)?;
         Some(wire.tunnel)
+    }
+
+    /// The place of a remote of a port, if it is known. The first port is 0, and so is its first
+    /// remote.
+    pub fn remote(&self, port: usize, end: usize) -> Option<SocketAddrV4>
+        ensures { result ≡ remote_at (slice_get self.now.ethernet.items port) end }
+    {
+        let wire = self.ethernet.get(port)?;
+        wire.remotes.place(end)
     }
 
     /// What was dropped at a port because it had no frame in the tunnel. None if the port does not

@@ -21,6 +21,8 @@ mod largest;
 #[cfg(test)]
 mod lines;
 #[cfg(test)]
+mod notices;
+#[cfg(test)]
 mod refusals;
 #[cfg(test)]
 mod refused;
