@@ -1,5 +1,5 @@
 -- which remotes of an Ethernet port a value lists
-use Rattle.std.proofs.Common.{Vec, ◌≡◌, ◌≤◌, Result, Ok, Err, ℕ, List, [], ◌∷◌, ◌++◌, length, Option, Some, None, true, false, ap, inl, inr, sym, ◌∙◌, subst, arith, append-nil, lit≤}
+use Rattle.std.proofs.Common.{Vec, ◌≡◌, ◌≤◌, Result, Ok, Err, ℕ, List, [], ◌∷◌, ◌++◌, length, Option, Some, None, true, false, ap, inl, inr, refl, sym, ◌∙◌, subst, arith, append-nil, lit≤}
 use Rattle.std.proofs.lemmas.Option.{same_Some}
 use Rattle.std.proofs.NetLemmas.Ipv4.{read_ipv4_complete}
 use Rattle.std.proofs.NetLemmas.Numbers.{NoDigit}
@@ -8,19 +8,21 @@ use Rattle.std.proofs.NetLemmas.Theorems.{IsIpv4Text_unique, IsSocketV4Text_uniq
 use Rattle.std.specs.Global.{Global}
 use Rattle.std.specs.Net.Addr.{ipv4_octets}
 use Rattle.std.specs.Net.Grammar.{IsDotted, IsSocketV4Text}
-use Rattle.std.specs.Net.Reader.{read_ipv4}
+use Rattle.std.specs.Net.Reader.{read_ipv4, read_number, read_octet}
 use Rattle.std.specs.Net.Socket.{v4_ip}
-use Rattle.std.specs.Prelude.{IfOk, codes}
+use Rattle.std.specs.Prelude.{IfOk, codes, slice_index_or}
 use Rattle.std.specs.declared.net.ipv4_addr.Ipv4Addr.{Ipv4Addr}
 use Rattle.std.specs.declared.net.socket_addr.SocketAddrV4.{SocketAddrV4}
 use Rattle.toml.specs.Data.{Data, Items, no_items, item, as_array, as_str}
-use Rattle.toml.specs.View.{items_view}
+use Rattle.toml.specs.View.{items_view, view}
 use Rattle.toml.specs.declared.value.Value.{Value}
 use Rattle.ipx_carrier.specs.Traces.{v4_at}
 use Rattle.ipx_tunnels.specs.declared.tunnel.Tunnel.{Tunnel}
+use Rattle.ipx_config.specs.declared.site.RemotesConfig.{RemotesConfig}
+use Rattle.ipx_config.specs.declared.site.RemotesConfig.TheVariants.{Listed, Learned}
 use Rattle.ipx_config.specs.Fields.{Reads}
 use Rattle.ipx_config.specs.Values.{AreEach, IsIpAddress}
-use Rattle.ipx_config.specs.EthernetValues.{AreEthernetEnds, AreRemotesOf, IsEthernetEnd, IsPlace, IsUsualPlace, ReadsEthernetEnds, WritesPlace, can_be_remotes, is_somewhere, usual_udp_port}
+use Rattle.ipx_config.specs.EthernetValues.{AreEthernetEnds, AreListedRemotes, AreRemotesOf, IsAny, IsEthernetEnd, IsPlace, IsUsualPlace, ReadsEthernetEnds, WritesPlace, can_be_remotes, can_learn, is_somewhere, usual_udp_port}
 use Rattle.ipx_config.proofs.Each.{as_many}
 
 -- an array of none, or of more than 256, lists no ends
@@ -110,8 +112,78 @@ ends_once usual d a b (ds, is, one, some, few) (es, is', other, some', few') =
 -- if they are not the remotes of a port, the value has no other reading in which they are
 pub not_remotes : (tunnel : Tunnel) (own : SocketAddrV4) (d : Data) (ends : Vec SocketAddrV4 Global)
     → AreEthernetEnds (usual_udp_port tunnel) d ends → can_be_remotes tunnel own ends.items ≡ false
-    → (others : Vec SocketAddrV4 Global) → AreRemotesOf tunnel own d others → ⊥
+    → (others : Vec SocketAddrV4 Global) → AreListedRemotes tunnel own d others → ⊥
 not_remotes tunnel own d ends are none others (are', all) =
     let same : others.items ≡ ends.items = ends_once (usual_udp_port tunnel) d others ends are' are in
     let at = subst (λ (it : List SocketAddrV4). can_be_remotes tunnel own it ≡ true) same all in
     absurd (cc)
+
+-- ---- the word any
+
+any_unread : read_ipv4 (codes "any") ≡ None
+unfolding read_ipv4 read_octet read_number
+any_unread = refl
+
+-- it is no IP address
+any_is_no_ip : (text octets : List ℕ) → text ≡ codes "any" → IsDotted text octets → ⊥
+any_is_no_ip text octets is dotted =
+    let whole : read_ipv4 (text ++ []) ≡ Some (octets, []) = read_ipv4_complete text octets [] dotted (lit≤ tt) in
+    let texts : text ++ [] ≡ codes "any" = append-nil text ∙ is in
+    let none : None ≡ Some (octets, []) = sym any_unread ∙ ap read_ipv4 (sym texts) ∙ whole in
+    absurd (cc)
+
+-- and no place
+any_is_no_place : (text : List ℕ) (p : SocketAddrV4) → text ≡ codes "any" → IsSocketV4Text text p → ⊥
+any_is_no_place text p is (ip, port, split, is_ip, is_port) =
+    let stop : NoDigit 10 port = rw is_port.1 (lit≤ tt) in
+    let front : read_ipv4 (ip ++ port) ≡ Some (ipv4_octets (v4_ip p), port) = read_ipv4_complete ip (ipv4_octets (v4_ip p)) port is_ip stop in
+    let texts : codes "any" ≡ ip ++ port = sym is ∙ split in
+    let none : None ≡ Some (ipv4_octets (v4_ip p), port) = sym any_unread ∙ ap read_ipv4 texts ∙ front in
+    absurd (cc)
+
+any_is_no_end : (usual : Option ℕ) (v : Data) (p : SocketAddrV4) → as_str v ≡ Some (codes "any") → IsEthernetEnd usual v p → ⊥
+any_is_no_end usual v p any (inl (text, is, writes)) =
+    any_is_no_place text p (same_Some text (codes "any") (sym is ∙ any)) writes.0
+any_is_no_end usual v p any (inr (n, ip, is, (text, is_text, dotted, set), at)) =
+    any_is_no_ip text ip (same_Some text (codes "any") (sym is_text ∙ any)) dotted
+
+-- so an array of it alone lists no places
+pub any_lists_none : (usual : Option ℕ) (d : Data) → IsAny d → (ends : Vec SocketAddrV4 Global) → AreEthernetEnds usual d ends → ⊥
+any_lists_none usual d (v, only, any) ends (ds, is, each, some, few) =
+    let same : ds ≡ item v no_items = same_Some ds (item v no_items) (sym is ∙ only) in
+    let one = subst (λ (it : Items). AreEach (IsEthernetEnd usual) it ends.items) same each in
+    any_is_no_end usual v one.0 any one.3
+
+-- which values are such an array
+pub is_one_word : (d : Data) (values : List Value) (word : Value) → as_array d ≡ Some (items_view values) → length values ≡ 1 → word ≡ slice_index_or values 0 word
+    → as_str (view word) ≡ Some (codes "any") → IsAny d
+is_one_word d [] word is one at any = absurd (omega (arith, one))
+is_one_word d (x ∷ []) word is one at any = (view x, is, ap (λ (w : Value). as_str (view w)) (sym at) ∙ any)
+is_one_word d (x ∷ y ∷ more) word is one at any = absurd (omega (arith, one))
+
+pub is_other_word : (d : Data) (values : List Value) (word : Value) → as_array d ≡ Some (items_view values) → length values ≡ 1 → word ≡ slice_index_or values 0 word
+    → (as_str (view word) ≡ Some (codes "any") → ⊥) → IsAny d → ⊥
+is_other_word d [] word is one at other (v, only, any) = absurd (omega (arith, one))
+is_other_word d (x ∷ []) word is one at other (v, only, any) =
+    let same : item (view x) no_items ≡ item v no_items = same_Some _ _ (sym is ∙ only) in
+    let word_is : view x ≡ v = cc in
+    other (ap (λ (w : Value). as_str (view w)) at ∙ ap as_str word_is ∙ any)
+is_other_word d (x ∷ y ∷ more) word is one at other (v, only, any) = absurd (omega (arith, one))
+
+pub is_not_one : (d : Data) (values : List Value) → as_array d ≡ Some (items_view values) → (length values ≡ 1 → ⊥) → IsAny d → ⊥
+is_not_one d [] is many (v, only, any) =
+    let same : no_items ≡ item v no_items = same_Some _ _ (sym is ∙ only) in absurd (cc)
+is_not_one d (x ∷ []) is many (v, only, any) = many refl
+is_not_one d (x ∷ y ∷ more) is many (v, only, any) =
+    let same : item (view x) (item (view y) (items_view more)) ≡ item v no_items = same_Some _ _ (sym is ∙ only) in
+    absurd (cc)
+
+-- the remotes that a value names
+pub none_learn : (tunnel : Tunnel) (own : SocketAddrV4) (d : Data) → IsAny d → can_learn tunnel ≡ false → (r : RemotesConfig) → AreRemotesOf tunnel own d r → ⊥
+none_learn tunnel own d any unable (Listed ends) are = any_lists_none (usual_udp_port tunnel) d any ends are.0
+none_learn tunnel own d any unable Learned are = absurd (cc)
+
+pub none_listed : (tunnel : Tunnel) (own : SocketAddrV4) (d : Data) → (IsAny d → ⊥) → ((ends : Vec SocketAddrV4 Global) → AreListedRemotes tunnel own d ends → ⊥)
+    → (r : RemotesConfig) → AreRemotesOf tunnel own d r → ⊥
+none_listed tunnel own d other none (Listed ends) are = none ends are
+none_listed tunnel own d other none Learned are = other are.0

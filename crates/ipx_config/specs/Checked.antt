@@ -33,6 +33,8 @@ use Rattle.ipx_config.specs.declared.site.EthernetPortConfig.{EthernetPortConfig
 use Rattle.ipx_config.specs.declared.ipxnet_port.IpxnetPortConfig.{IpxnetPortConfig}
 use Rattle.ipx_config.specs.declared.site.PortConfig.{PortConfig}
 use Rattle.ipx_config.specs.declared.site.PortConfig.TheVariants.{Rfc1234, Ethernet, Ipxnet}
+use Rattle.ipx_config.specs.declared.site.RemotesConfig.{RemotesConfig}
+use Rattle.ipx_config.specs.declared.site.RemotesConfig.TheVariants.{Listed, Learned}
 use Rattle.ipx_config.specs.declared.site.RouterConfig.{RouterConfig}
 use Rattle.ipx_config.specs.declared.site.Rfc1234PortConfig.{Rfc1234PortConfig}
 use Rattle.ipx_config.specs.PortKinds.{network_of_kind, place_of_kind}
@@ -111,11 +113,16 @@ ethernet_end_text end = codes " " ++ reached_text (ipv4_octets (v4_ip end)) (v4_
 abbrev pub switch_text : Bool → List ℕ
 switch_text switched = if switched then [] else codes " switch false"
 
--- its cost, the places of its remotes, whether it switches frames between them, and which directed broadcasts
+-- the remotes of a port
+abbrev pub remotes_text : RemotesConfig → List ℕ
+remotes_text (Listed ends) = flat_map ethernet_end_text ends.items
+remotes_text Learned = codes " any (learned by session and cookie)"
+
+-- its cost, its remotes, whether it switches frames between them, and which directed broadcasts
 -- leave by it
 abbrev pub ethernet_fields_text : EthernetPortConfig → List ℕ
 ethernet_fields_text p =
-    codes "cost " ++ (decimal p.cost ++ (codes " remotes" ++ (flat_map ethernet_end_text p.ends.items
+    codes "cost " ++ (decimal p.cost ++ (codes " remotes" ++ (remotes_text p.remotes
     ++ (switch_text p.switched ++ directed_text p.directed))))
 
 -- the number of a VXLAN network

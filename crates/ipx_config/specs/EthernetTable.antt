@@ -30,7 +30,7 @@ pub record IsEthernetTable (ms : Members) (p : EthernetPortConfig) : Type 0 wher
   pub tunnel : IsTunnelTable ms p.tunnel
   pub udp_port : IsUdpPort (usual_udp_port p.tunnel) ms p.udp_port
   pub cost : HoldsOr (IsCount 65535) Key.Cost ms 1 p.cost
-  pub ends : Holds (AreRemotesOf p.tunnel (v4_at p.address p.udp_port)) Key.Remotes ms p.ends
+  pub remotes : Holds (AreRemotesOf p.tunnel (v4_at p.address p.udp_port)) Key.Remotes ms p.remotes
   pub node : HoldsOr IsStation Key.Node ms (made_station p.address p.udp_port) p.node
   pub switched : HoldsOr IsFlag Key.Switch ms true p.switched
   pub directed : HoldsOr IsDirected Key.Directed ms Directed.Few p.directed

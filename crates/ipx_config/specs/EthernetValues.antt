@@ -1,5 +1,5 @@
 -- The values of the keys of an Ethernet port. Defined by this project.
-use Rattle.std.specs.Prelude.{Vec, ◌≡◌, ℕ, ◌+◌, ◌*◌, ◌/◌, ◌==◌, ◌≤◌, List, [], ◌∷◌, ◌++◌, Bool, true, not, ◌&&◌, Option, Some, None, ◌⊎◌, codes, drop, length, nat_eq, slice_index, MatchOption}
+use Rattle.std.specs.Prelude.{Vec, ◌≡◌, ℕ, ◌+◌, ◌*◌, ◌/◌, ◌==◌, ◌≤◌, List, [], ◌∷◌, ◌++◌, Bool, true, false, not, ◌&&◌, Option, Some, None, ◌⊎◌, codes, drop, length, nat_eq, slice_index, MatchOption}
 use Rattle.std.specs.Cmp.Lexicographic.{pointwise}
 use Rattle.std.specs.Global.{Global}
 use Rattle.std.specs.Int.{w16, to_be_bytes}
@@ -9,15 +9,18 @@ use Rattle.std.specs.Net.Grammar.{IsSocketV4Text}
 use Rattle.std.specs.Net.Socket.{v4_ip, v4_port}
 use Rattle.std.specs.Str.{bytes_eq}
 use Rattle.std.specs.declared.net.socket_addr.SocketAddrV4.{SocketAddrV4}
-use Rattle.toml.specs.Data.{Data, Items, as_array, as_bool, as_str}
+use Rattle.toml.specs.Data.{Data, Items, no_items, item, as_array, as_bool, as_str}
 use Rattle.ipx_ethernet.specs.Frame.{is_group}
 use Rattle.ipx_ethernet.specs.declared.encapsulation.Encapsulation.{Encapsulation}
 use Rattle.ipx_ethernet.specs.declared.encapsulation.Encapsulation.TheVariants.{Raw, Llc, Snap, EthernetII}
 use Rattle.ipx_carrier.specs.Traces.{v4_at}
 use Rattle.ipx_tunnels.specs.declared.tunnel.Tunnel.{Tunnel}
 use Rattle.ipx_tunnels.specs.declared.tunnel.Tunnel.TheVariants.{Plain, Vxlan, L2tpv3}
+use Rattle.ipx_tunnels.specs.Tunnels.{cookie_bytes}
 use Rattle.ipx_wire.specs.AddressText.{spelled_node}
 use Rattle.ipx_wire.specs.declared.address.Node.{Node}
+use Rattle.ipx_config.specs.declared.site.RemotesConfig.{RemotesConfig}
+use Rattle.ipx_config.specs.declared.site.RemotesConfig.TheVariants.{Listed, Learned}
 use Rattle.ipx_config.specs.Values.{AreEach, IsIpAddress}
 
 abbrev pub frame_word : Encapsulation → List ℕ
@@ -95,10 +98,26 @@ usual_udp_port (L2tpv3 s) = Some 1701
 abbrev pub can_be_remotes : Tunnel → SocketAddrV4 → List SocketAddrV4 → Bool
 can_be_remotes tunnel own ends = not (list_any (is_same_place own) ends) && are_remotes_distinct tunnel ends
 
--- an array of the remotes of such a port
-abbrev pub AreRemotesOf : Tunnel → SocketAddrV4 → Data → Vec SocketAddrV4 Global → Type 0
-AreRemotesOf tunnel own d ends =
+-- an array of the places of the remotes of such a port
+abbrev pub AreListedRemotes : Tunnel → SocketAddrV4 → Data → Vec SocketAddrV4 Global → Type 0
+AreListedRemotes tunnel own d ends =
     AreEthernetEnds (usual_udp_port tunnel) d ends × (can_be_remotes tunnel own ends.items ≡ true)
+
+-- an array of the string "any" alone
+abbrev pub IsAny : Data → Type 0
+IsAny d = (v : Data) × (as_array d ≡ Some (item v no_items)) × (as_str v ≡ Some (codes "any"))
+
+-- a port with this tunnel can learn where its remote is: by L2TPv3 with a cookie of eight bytes. No other tunnel
+-- has a header that is hard to guess
+abbrev pub can_learn : Tunnel → Bool
+can_learn Plain = false
+can_learn (Vxlan vni) = false
+can_learn (L2tpv3 s) = length (cookie_bytes s.cookie) == 8
+
+-- the remotes of such a port: listed ones, or "any": one remote, whose place the port learns
+abbrev pub AreRemotesOf : Tunnel → SocketAddrV4 → Data → RemotesConfig → Type 0
+AreRemotesOf tunnel own d (Listed ends) = AreListedRemotes tunnel own d ends
+AreRemotesOf tunnel own d Learned = IsAny d × (can_learn tunnel ≡ true)
 
 -- digits in pairs, with a colon before each pair but the first
 abbrev pub with_colons : List ℕ → List ℕ

@@ -9,6 +9,7 @@ use crate::ethernet_values::{encapsulation_of, flag_of, remotes_of, station_of};
 use crate::fault::ConfigError;
 use crate::fields::{held, required};
 use crate::key::Key;
+use crate::site::RemotesConfig;
 use crate::values::count_of;
 use ipx_ethernet::Encapsulation;
 use ipx_tunnels::Tunnel;
@@ -49,11 +50,11 @@ pub fn remotes_in(
     number: usize,
     tunnel: Tunnel,
     own: SocketAddrV4,
-) -> Result<Vec<SocketAddrV4>, ConfigError>
+) -> Result<RemotesConfig, ConfigError>
     ensures { Gives (AreRemotesOf tunnel own) Key.Remotes (table_view table.now) number result }
 {
     match remotes_of(alloc, tunnel, own, required(table, number, Key::Remotes)?)? {
-        Some(ends) => Ok(ends),
+        Some(remotes) => Ok(remotes),
         None => Err(ConfigError::Wrong(number, Key::Remotes)),
     }
 }

@@ -1,16 +1,18 @@
 //! The values of the keys of an Ethernet port.
 
-ghost use Rattle.std.specs.Prelude.{◌≡◌, IfOk};
+ghost use Rattle.std.specs.Prelude.{◌≡◌, IfOk, Some, codes, false, true};
 ghost use Rattle.std.specs.List.{list_any};
+ghost use Rattle.toml.specs.Data.{as_str};
 ghost use Rattle.toml.specs.View.{items_view, view};
 ghost use Rattle.ipx_config.specs.Fields.{Reads};
-ghost use Rattle.ipx_config.specs.EthernetValues.{AreEthernetEnds, AreRemotesOf, IsEncapsulation, IsFlag, IsPlace, IsStation, IsEthernetEnd, IsUsualPlace, ReadsDigits, ReadsPlace, ReadsStation, ReadsEthernetEnds, are_ips_distinct, are_places_distinct, are_remotes_distinct, can_be_remotes, frame_word, is_same_ip, is_somewhere, is_station, made_station, usual_udp_port};
+ghost use Rattle.ipx_config.specs.EthernetValues.{AreEthernetEnds, AreListedRemotes, AreRemotesOf, IsAny, IsEncapsulation, IsFlag, IsPlace, IsStation, IsEthernetEnd, IsUsualPlace, ReadsDigits, ReadsPlace, ReadsStation, ReadsEthernetEnds, are_ips_distinct, are_places_distinct, are_remotes_distinct, can_be_remotes, can_learn, frame_word, is_same_ip, is_somewhere, is_station, made_station, usual_udp_port};
 
 use crate::allowed_peer::MAX_ENTRIES;
+use crate::site::RemotesConfig;
 use crate::values::parse_ip_address;
 use ipx_carrier::socket_addr;
 use ipx_ethernet::Encapsulation;
-use ipx_tunnels::Tunnel;
+use ipx_tunnels::{Cookie, Tunnel};
 use ipx_wire::{Node, OutOfMemory};
 use std::alloc::Global;
 use std::net::SocketAddrV4;
@@ -194,13 +196,13 @@ pub fn usual_udp_port(tunnel: Tunnel) -> Option<u16>
 }
 
 /// The remotes that a value lists for a port with a tunnel, at its own place.
-pub fn remotes_of(
+fn listed_remotes(
     alloc: Global,
     tunnel: Tunnel,
     own: SocketAddrV4,
     value: &Value,
 ) -> Result<Option<Vec<SocketAddrV4>>, OutOfMemory>
-    ensures { IfOk result (Reads (AreRemotesOf tunnel own) (view value.now)) }
+    ensures { IfOk result (Reads (AreListedRemotes tunnel own) (view value.now)) }
 {
     let Some(ends) = ends_of(alloc, usual_udp_port(tunnel), value)? else {
         return Ok(None);
@@ -209,6 +211,60 @@ pub fn remotes_of(
         Ok(Some(ends))
     } else {
         Ok(None)
+    }
+}
+
+/// Whether a value is the word for a remote whose place the port learns.
+pub(crate) fn is_any_word(value: &Value) -> bool
+    ensures any { result ≡ true → as_str (view value.now) ≡ Some (codes "any") }
+    ensures other { result ≡ false → as_str (view value.now) ≡ Some (codes "any") → ⊥ }
+{
+    match value.as_str() {
+        Some("any") => true,
+        _ => false,
+    }
+}
+
+/// Whether a value lists this word alone.
+fn is_any(value: &Value) -> bool
+    ensures any { result ≡ true → IsAny (view value.now) }
+    ensures other { result ≡ false → IsAny (view value.now) → ⊥ }
+{
+    let Some(values) = value.as_array() else {
+        return false;
+    };
+    values.len() == 1 && is_any_word(&values[0])
+}
+
+/// Whether a port with this tunnel can learn where its remote is. For this the tunnel needs a
+/// header that is hard to guess.
+pub(crate) fn can_learn(tunnel: Tunnel) -> bool
+    ensures { result ≡ can_learn tunnel }
+{
+    match tunnel {
+        Tunnel::Plain | Tunnel::Vxlan(_) => false,
+        Tunnel::L2tpv3(session) => matches!(session.cookie, Cookie::Long(_)),
+    }
+}
+
+/// The remotes that a value names for a port with a tunnel, at its own place.
+pub fn remotes_of(
+    alloc: Global,
+    tunnel: Tunnel,
+    own: SocketAddrV4,
+    value: &Value,
+) -> Result<Option<RemotesConfig>, OutOfMemory>
+    ensures { IfOk result (Reads (AreRemotesOf tunnel own) (view value.now)) }
+{
+    if is_any(value) {
+        if can_learn(tunnel) {
+            return Ok(Some(RemotesConfig::Learned));
+        }
+        return Ok(None);
+    }
+    match listed_remotes(alloc, tunnel, own, value)? {
+        Some(ends) => Ok(Some(RemotesConfig::Listed(ends))),
+        None => Ok(None),
     }
 }
 

@@ -2,7 +2,7 @@
 
 use crate::allowed_peer::{MAX_ENTRIES, origin_of};
 use crate::escaped::Escaped;
-use crate::ethernet_values::{end_of, usual_udp_port};
+use crate::ethernet_values::{can_learn, end_of, is_any_word, usual_udp_port};
 use crate::fault::ConfigError;
 use crate::fields::held;
 use crate::ipxnet_peers::is_peer;
@@ -188,9 +188,28 @@ fn is_same_ip(usual: Option<u16>, one: &Value, other: &Value) -> bool {
     }
 }
 
+/// Why the word for a remote whose place the port learns is wrong, after the `earlier` entries.
+fn any_fault(tunnel: Tunnel, earlier: &[Value]) -> Option<&'static str> {
+    if !can_learn(tunnel) {
+        return Some(
+            "needs tunnel = \"l2tpv3\" and a cookie of 8 bytes: without, anybody could become the remote",
+        );
+    }
+    if earlier.is_empty() {
+        return None;
+    }
+    Some("must be alone in the list")
+}
+
 /// Why a remote is wrong, after the `earlier` ones.
 fn remote_fault(table: &Table, earlier: &[Value], value: &Value) -> Option<&'static str> {
     let tunnel = tunnel_of_port(table);
+    if is_any_word(value) {
+        return any_fault(tunnel, earlier);
+    }
+    if earlier.iter().any(is_any_word) {
+        return Some("is beside \"any\", which must be alone");
+    }
     let usual = usual_udp_port(tunnel);
     let place = end_of(usual, value);
     if place.is_some() && place == place_of_port(table, usual) {

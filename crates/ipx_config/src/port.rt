@@ -69,7 +69,7 @@ fn ethernet_port(
     let udp_port = udp_port_in(table, number, usual_udp_port(tunnel))?;
     let cost = count_in(table, number, Key::Cost, 65535, 1)?;
     let own = socket_addr(address, udp_port);
-    let ends = remotes_in(alloc, table, number, tunnel, own)?;
+    let remotes = remotes_in(alloc, table, number, tunnel, own)?;
     let made = station_at(address, udp_port);
     let node = station_in(table, number, made)?;
     let switched = flag_in(table, number, Key::Switch, true)?;
@@ -81,7 +81,7 @@ fn ethernet_port(
         tunnel,
         udp_port,
         cost,
-        ends,
+        remotes,
         node,
         switched,
         directed,

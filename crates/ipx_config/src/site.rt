@@ -64,6 +64,15 @@ pub struct Rfc1234PortConfig {
     pub directed: Directed,
 }
 
+/// The remotes of an Ethernet port.
+#[derive(Drop)]
+pub enum RemotesConfig {
+    /// Those at these places, 1 to 256.
+    Listed(Vec<SocketAddrV4>),
+    /// One, which is wherever the last frame of the port's session, with its cookie, came from.
+    Learned,
+}
+
 /// The configuration of an Ethernet port.
 #[derive(Drop)]
 pub struct EthernetPortConfig {
@@ -79,8 +88,7 @@ pub struct EthernetPortConfig {
     pub udp_port: u16,
     /// The cost of sending there, in ticks.
     pub cost: u16,
-    /// The places of its remotes, 1 to 256.
-    pub ends: Vec<SocketAddrV4>,
+    pub remotes: RemotesConfig,
     /// Its own node.
     pub node: Node,
     /// Whether it switches frames between its remotes.

@@ -2,11 +2,11 @@
 
 ghost use Rattle.std.specs.Prelude.{◌≡◌, IfOk, map, string_bytes};
 ghost use Rattle.std.specs.List.{flat_map};
-ghost use Rattle.ipx_config.specs.Checked.{clients_text, dealings_text, directed_text, dotted_text, ethernet_fields_text, ipxnet_text, join_text, switch_text, others_text, place_text, port_text, port_texts, reached_text, rfc1234_text, routers_text, ethernet_end_text, ethernet_text};
+ghost use Rattle.ipx_config.specs.Checked.{clients_text, dealings_text, directed_text, dotted_text, ethernet_fields_text, ipxnet_text, join_text, switch_text, others_text, place_text, port_text, port_texts, reached_text, remotes_text, rfc1234_text, routers_text, ethernet_end_text, ethernet_text};
 
 use crate::ethernet_values::word_of;
 use crate::ipxnet_port::IpxnetPortConfig;
-use crate::site::{Accept, Directed, EthernetPortConfig, PortConfig, Rfc1234PortConfig};
+use crate::site::{Accept, Directed, EthernetPortConfig, PortConfig, RemotesConfig, Rfc1234PortConfig};
 use crate::tunnel_lines::tunnel_to_text;
 use ipx_carrier::node_of;
 use ipx_wire::{Network, Node};
@@ -116,6 +116,16 @@ fn ends_to_text(alloc: Global, ends: &[SocketAddrV4]) -> Result<String, AllocErr
     Ok(text)
 }
 
+/// The remotes of an Ethernet port, after a space.
+fn remotes_to_text(alloc: Global, remotes: &RemotesConfig) -> Result<String, AllocError>
+    ensures { IfOk result (λ t. string_bytes t ≡ remotes_text remotes.now) }
+{
+    match remotes {
+        RemotesConfig::Listed(ends) => ends_to_text(alloc, ends),
+        RemotesConfig::Learned => String::from_str(alloc, " any (learned by session and cookie)"),
+    }
+}
+
 /// The word that says that a port does not switch frames between its remotes.
 fn switch_text(switched: bool) -> &'static str
     ensures { result.now ≡ switch_text switched }
@@ -127,10 +137,10 @@ fn ethernet_fields_to_text(alloc: Global, port: &EthernetPortConfig) -> Result<S
     ensures { IfOk result (λ t. string_bytes t ≡ ethernet_fields_text port.now) }
 {
     let cost = port.cost;
-    let ends = ends_to_text(alloc, &port.ends)?;
+    let remotes = remotes_to_text(alloc, &port.remotes)?;
     let switch = switch_text(port.switched);
     let directed = directed(port.directed);
-    format!(in alloc; "cost {cost} remotes{ends}{switch}{directed}")
+    format!(in alloc; "cost {cost} remotes{remotes}{switch}{directed}")
 }
 
 /// An Ethernet port with its number: `port 2 network .. node .. ethernet .. udp .. cost .. remotes ..`.

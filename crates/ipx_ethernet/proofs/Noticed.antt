@@ -1,13 +1,11 @@
 -- Whether a frame is in the port's encapsulation, and what its packet says, whatever follows the packet.
-use Rattle.std.proofs.Common.{◌≡◌, ◌≤◌, ℕ, List, ◌++◌, [], Bool, true, false, ◌||◌, ◌&&◌, not, Option, Some, None, length, take, drop, slice_index, arith, refl, sym, ap, ◌∙◌, eq-eqb}
-use Rattle.std.specs.Prelude.{◌==◌, if◌then◌else◌}
-use Rattle.std.specs.Str.{bytes_eq}
+use Rattle.std.proofs.Common.{◌≡◌, ◌≤◌, ℕ, List, ◌++◌, Bool, true, false, ◌&&◌, Option, Some, None, length, take, drop, arith, refl, sym, ap, ◌∙◌, eq-eqb}
+use Rattle.std.specs.Prelude.{if◌then◌else◌}
 use Rattle.std.proofs.lemmas.Bool.{eqb-true, le-leb, leb-true}
 use Rattle.std.proofs.lemmas.List.{drop-append-le, get_or_append_left, length-drop, take-append-le}
 use Rattle.ipx_wire.specs.declared.address.Network.{Network}
 use Rattle.ipx_wire.specs.declared.address.Node.{Node}
-use Rattle.ipx_wire.specs.Assigned.{broadcast_node}
-use Rattle.ipx_wire.specs.Ipx.{PacketView, IsIpx, number}
+use Rattle.ipx_wire.specs.Ipx.{number}
 use Rattle.ipx_ethernet.specs.declared.encapsulation.Encapsulation.{Encapsulation}
 use Rattle.ipx_ethernet.specs.declared.encapsulation.Encapsulation.TheVariants.{Raw, Llc, Snap, EthernetII}
 use Rattle.ipx_ethernet.specs.declared.ethernet_port.EthernetPort.{EthernetPort}

@@ -7,7 +7,7 @@ use ipx_carrier::{OwnedRfc1234Ports, PortDriver, socket_addr};
 use ipx_config::{EthernetPortConfig, PortConfig, Rfc1234PortConfig};
 use ipx_ethernet::{EthernetPort, Switch};
 use ipx_ethernet_ports::{EthernetPorts, EthernetSockets};
-use ipx_sockets::{BindFault, UdpSockets, bind_error};
+use ipx_sockets::{BindFault, UdpSockets, bind_error, remotes_of};
 use ipx_wire::Node;
 use std::alloc::Global;
 use std::io::ErrorKind;
@@ -44,7 +44,8 @@ fn datagrams<R: Net>(
     }
 }
 
-/// The socket of an Ethernet port, and its switch.
+/// The socket of an Ethernet port, and its switch. Nothing is sent to a remote whose place is
+/// learned, since no frame of it came.
 fn ethernet<R: Net>(
     rt: &R,
     alloc: Global,
@@ -57,10 +58,10 @@ fn ethernet<R: Net>(
         encapsulation: port.encapsulation,
     };
     let switches = vec![in alloc; Switch::new(alloc, own, port.switched)?]?;
-    let ends = Vec::from_slice(alloc, &port.ends)?;
+    let remotes = remotes_of(alloc, &port.remotes)?;
     let mut sockets = EthernetSockets::new(alloc);
     let at = socket_addr(port.address, port.udp_port);
-    match sockets.bind(rt, at, ends, port.tunnel) {
+    match sockets.bind(rt, at, remotes, port.tunnel) {
         Ok(()) => Ok(Outlet::Ethernet(EthernetPorts::new(sockets, switches))),
         Err(error) if error.kind() == ErrorKind::OutOfMemory => Err(FarewellFault::OutOfMemory),
         Err(error) => {

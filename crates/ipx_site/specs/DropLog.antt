@@ -7,10 +7,22 @@ use Rattle.ipx_router.specs.RouterPackets.{broadcast}
 use Rattle.ipx_metrics.specs.declared.last_drops.LastDrop.{LastDrop}
 use Rattle.ipx_carrier.specs.declared.outcome_counters.OutcomeCounters.{OutcomeCounters}
 use Rattle.ipx_source_checks.specs.declared.drops.SourceDrops.{SourceDrops}
+use Rattle.ipx_ethernet.specs.Heard.{SwitchView}
+use Rattle.ipx_site.specs.FrameLog.{AreMistakesLogged}
+use Rattle.ipx_site.specs.declared.frame_log.FrameLog.{FrameLog}
+use Rattle.ipx_site.specs.declared.router_ports.PortIndex.{PortIndex}
 use Rattle.ipx_site.specs.declared.drop_log.DropLog.{DropLog}
 use Rattle.ipx_site.specs.declared.drop_log.DropReason.{DropReason}
 use Rattle.ipx_site.specs.declared.drop_log.DropReason.TheVariants.{Bad, NotOurs, NoRoute, HopLimit, BadControl, ForwardedControl, GroupSource, LoopedSource}
 use Rattle.ipx_sockets.specs.Moments.{AreLoggedIfDue, IsLoggedIfDue, never_logged}
+
+-- no mistake has been logged
+abbrev pub no_mistakes_logged : FrameLog
+no_mistakes_logged = record {
+  other_network = replicate 16 never_logged;
+  two_places = replicate 16 never_logged;
+  own_address = replicate 16 never_logged;
+}
 
 -- nothing has been logged
 abbrev pub no_drops_logged : DropLog
@@ -24,10 +36,12 @@ no_drops_logged = record {
   group_source = never_logged;
   looped_source = never_logged;
   tunnels = record { ports = replicate 16 never_logged };
+  frames = no_mistakes_logged;
 }
 
--- the drops of each of eight reasons, and those at the tunnel of each port, are logged exactly if they are due
-pub record AreDropsLogged (outcomes : OutcomeCounters) (source : SourceDrops) (tunnels : List ℕ) (now : ℕ) (old new : DropLog) : Type 0 where
+-- the drops of each of eight reasons, and those at the tunnel of each port, are logged exactly if they are due. So
+-- are the mistakes that the switch of each port noticed
+pub record AreDropsLogged (outcomes : OutcomeCounters) (source : SourceDrops) (tunnels : List ℕ) (switches : List SwitchView) (port_indices : List PortIndex) (now : ℕ) (old new : DropLog) : Type 0 where
   pub bad : IsLoggedIfDue outcomes.bad now old.bad new.bad
   pub not_ours : IsLoggedIfDue outcomes.not_ours now old.not_ours new.not_ours
   pub no_route : IsLoggedIfDue outcomes.no_route now old.no_route new.no_route
@@ -38,6 +52,7 @@ pub record AreDropsLogged (outcomes : OutcomeCounters) (source : SourceDrops) (t
   pub group_source : IsLoggedIfDue source.group_source.count now old.group_source new.group_source
   pub looped_source : IsLoggedIfDue source.looped_source.count now old.looped_source new.looped_source
   pub at_tunnels : AreLoggedIfDue tunnels now old.tunnels.ports new.tunnels.ports
+  pub frames : AreMistakesLogged switches port_indices now old.frames new.frames
 
 -- the last datagram of a reason was for all nodes of a network, to a socket other than those of RIP and SAP,
 -- which routers hear

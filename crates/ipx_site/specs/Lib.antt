@@ -10,6 +10,7 @@ pub mod StaticNeighbours
 pub mod StaticsHold
 pub mod TunnelFamilies
 pub mod TunnelLog
+pub mod FrameLog
 pub mod DropLog
 pub mod RouterMetrics
 pub mod Registering

@@ -48,5 +48,5 @@ pub record WorksInRound {gd : OfDevice.Ghosts (SourceFilter UdpSockets)} {ge : O
   pub warns : AreLoggedIfDue (counts_to_log (happened (with_refusals refused before.totals) mid ports)) now
       before.warnings.causes after.warnings.causes
   pub logs : AreDropsLogged mid.core.core.core.outcomes mid.drops (drop_counts ports.ethernet.sockets.ethernet.items ports.port_indices.items)
-      now before.drops after.drops
+      ports.ethernet.switches.items ports.port_indices.items now before.drops after.drops
   pub writes : IsDoneIfDue 10000 now before.written after.written

@@ -1,10 +1,12 @@
-//! Log lines for dropped datagrams: one a minute for each reason, with the last datagram.
+//! Log lines for dropped datagrams: one a minute for each reason, with the last datagram. With them
+//! go those for mistakes on the segments of Ethernet ports.
 
 ghost use Rattle.std.specs.Prelude.{◌≡◌};
 ghost use Rattle.ipx_site.specs.DropLog.{AreDropsLogged, AreRouterDropsLogged, AreSourceDropsLogged, is_for_all_nodes, is_of_all_nodes, no_drops_logged, warns_of};
 ghost use Rattle.ipx_site.specs.TunnelLog.{drop_counts};
 ghost use Rattle.ipx_sockets.specs.Moments.{IsLoggedIfDue};
 
+use crate::frame_log::FrameLog;
 use crate::router_ports::UdpRouterPorts;
 use crate::tunnel_log::TunnelLog;
 use ipx_carrier::OutcomeCounters;
@@ -40,6 +42,7 @@ pub struct DropSummary {
 }
 
 /// When a router last logged its drops, for each of eight reasons, and for the tunnel of each port.
+/// Also when it logged each mistake on the segment of each port.
 #[derive(Clone, Copy)]
 pub struct DropLog {
     bad: ThrottledLog,
@@ -51,6 +54,7 @@ pub struct DropLog {
     group_source: ThrottledLog,
     looped_source: ThrottledLog,
     tunnels: TunnelLog,
+    frames: FrameLog,
 }
 
 /// Writes that a packet claims to come from the network that it is for. Usually its sender has
@@ -192,11 +196,12 @@ impl DropLog {
             group_source: ThrottledLog::new(),
             looped_source: ThrottledLog::new(),
             tunnels: TunnelLog::new(),
+            frames: FrameLog::new(),
         }
     }
 
     /// Logs the reasons that are due: what the router dropped, what failed a source check before
-    /// it, and what had no frame in the tunnel of its port.
+    /// it, what had no frame in the tunnel of its port, and which frames show a mistake.
     pub fn tell<R: Log>(
         &mut self,
         rt: &R,
@@ -208,11 +213,12 @@ impl DropLog {
     )
         ensures { AreDropsLogged outcomes.now source
             (drop_counts ports.now.ethernet.sockets.ethernet.items ports.now.port_indices.items)
-            now self.old self.new }
+            ports.now.ethernet.switches.items ports.now.port_indices.items now self.old self.new }
     {
         self.tell_router_drops(rt, outcomes, last, now);
         self.tell_source_drops(rt, source, now);
         self.tunnels.tell(rt, ports, now);
+        self.frames.tell(rt, ports, now);
     }
 
     fn tell_router_drops<R: Log>(

@@ -1,16 +1,16 @@
 //! The Ethernet ports of a router: their sockets and their switches.
 
 ghost use Rattle.std.specs.Prelude.{◌≡◌, ◌++◌, ◌∷◌, [], IfOk, OnOk, map, true};
-ghost use Rattle.ipx_config.specs.PortLists.{end_places, ethernet_places, ethernet_ports};
+ghost use Rattle.ipx_config.specs.PortLists.{end_places, ethernet_places, ethernet_ports, learning_ports, learns_place, listed_places};
 ghost use Rattle.ipx_site.specs.KindPorts.{switch_of, ethernet_port_of};
 ghost use Rattle.ipx_carrier.specs.Traces.{v4_at};
-ghost use Rattle.ipx_ethernet_ports.specs.EthernetAddresses.{bound_places, ethernet_events, remote_places, remote_tunnels};
+ghost use Rattle.ipx_ethernet_ports.specs.EthernetAddresses.{bound_places, ethernet_events, learning_sockets, remote_places, remote_tunnels};
 
 use ipx_carrier::socket_addr;
 use ipx_config::{EthernetPortConfig, PortConfig};
 use ipx_ethernet::{EthernetPort, Switch};
 use ipx_ethernet_ports::{EthernetPorts, EthernetSockets};
-use ipx_sockets::{BindFault, bind_error};
+use ipx_sockets::{BindFault, bind_error, remotes_of};
 use std::alloc::{AllocError, Global};
 use std::io::ErrorKind;
 use std::net::Net;
@@ -51,18 +51,20 @@ fn bind_ethernet_port<R: Net>(
     ensures at { OnOk result (bound_places sockets.new.ethernet.items
         ≡ bound_places sockets.old.ethernet.items ++ v4_at port.now.address port.now.udp_port ∷ []) }
     ensures ends { OnOk result (remote_places sockets.new.ethernet.items
-        ≡ remote_places sockets.old.ethernet.items ++ port.now.ends.items ∷ []) }
+        ≡ remote_places sockets.old.ethernet.items ++ listed_places port.now.remotes ∷ []) }
+    ensures learned { OnOk result (learning_sockets sockets.new.ethernet.items
+        ≡ learning_sockets sockets.old.ethernet.items ++ learns_place port.now.remotes ∷ []) }
     ensures tunnels { OnOk result (remote_tunnels sockets.new.ethernet.items
         ≡ remote_tunnels sockets.old.ethernet.items ++ port.now.tunnel ∷ []) }
     ensures fresh { OnOk result (ethernet_events sockets.new.ethernet.items
         ≡ ethernet_events sockets.old.ethernet.items ++ [] ∷ []) }
     ensures marks { OnOk result (sockets.new.marks ≡ sockets.old.marks ++ true ∷ []) }
 {
-    let Ok(ends) = Vec::from_slice(alloc, &port.ends) else {
+    let Ok(remotes) = remotes_of(alloc, &port.remotes) else {
         return Err(BindFault::OutOfMemory);
     };
     let at = socket_addr(port.address, port.udp_port);
-    match sockets.bind(rt, at, ends, port.tunnel) {
+    match sockets.bind(rt, at, remotes, port.tunnel) {
         Ok(()) => Ok(()),
         Err(error) if error.kind() == ErrorKind::OutOfMemory => Err(BindFault::OutOfMemory),
         Err(error) => {
@@ -83,6 +85,8 @@ fn bind_ethernet_ports<R: Net>(
         bound_places s.ethernet.items ≡ ethernet_places (ethernet_ports ports.now)) }
     ensures ends { IfOk result (λ s.
         remote_places s.ethernet.items ≡ end_places (ethernet_ports ports.now)) }
+    ensures learned { IfOk result (λ s.
+        learning_sockets s.ethernet.items ≡ learning_ports (ethernet_ports ports.now)) }
     ensures tunnels { IfOk result (λ s.
         remote_tunnels s.ethernet.items ≡ map (λ p. p.tunnel) (ethernet_ports ports.now)) }
     ensures fresh { IfOk result (λ s.
@@ -109,6 +113,8 @@ pub fn ethernet_ports_of<R: Net>(
         bound_places w.sockets.ethernet.items ≡ ethernet_places (ethernet_ports ports.now)) }
     ensures ends { IfOk result (λ w.
         remote_places w.sockets.ethernet.items ≡ end_places (ethernet_ports ports.now)) }
+    ensures learned { IfOk result (λ w.
+        learning_sockets w.sockets.ethernet.items ≡ learning_ports (ethernet_ports ports.now)) }
     ensures tunnels { IfOk result (λ w.
         remote_tunnels w.sockets.ethernet.items ≡ map (λ p. p.tunnel) (ethernet_ports ports.now)) }
     // No socket was asked anything yet.

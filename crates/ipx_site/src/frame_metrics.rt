@@ -10,8 +10,11 @@ use crate::ethernet_totals::came_in;
 use crate::family::{Family, put_each_of_port, put_family, put_of_port, put_one};
 use crate::router_ports::{PortIndex, UdpRouterPorts};
 use ipx_ethernet::{Encapsulation, FrameCounters, Switch};
+use ipx_wire::Node;
 use log::{Log, warn};
 use std::alloc::{AllocError, Global};
+use std::fmt;
+use std::net::SocketAddrV4;
 
 /// The encapsulations, in the order in which they are logged.
 const ALL: [Encapsulation; 4] = [
@@ -75,7 +78,7 @@ pub struct EthernetMetrics {
 }
 
 /// The switch of an Ethernet port; None for other ports.
-fn switch_at(ports: &UdpRouterPorts, port_index: PortIndex) -> Option<&Switch>
+pub fn switch_at(ports: &UdpRouterPorts, port_index: PortIndex) -> Option<&Switch>
     ensures { option_map (λ s. s.now) result
         ≡ switch_at ports.now.ethernet.switches.items port_index }
 {
@@ -210,24 +213,69 @@ pub fn put_frame_metrics(text: &mut String, metrics: &EthernetMetrics) -> Result
     put_one(text, &SENT, metrics.sent)
 }
 
-/// Logs which other encapsulations came to a port.
-fn tell_encapsulations_at<R: Log>(rt: &R, number: usize, switch: &Switch) {
-    let own = switch.port().encapsulation;
-    for encapsulation in ALL {
-        let count = came_in(switch.counts(), encapsulation);
-        if count > 0 {
-            warn!(rt; target: "ipx",
-                "port {number}: frames of another encapsulation: {encapsulation}, this port has \
-                 {own} ({count} since the start)");
+/// What a line says of an encapsulation that came to a port with another one.
+#[derive(Clone, Copy)]
+pub struct EncapsulationLine {
+    pub came: Encapsulation,
+    /// The encapsulation of the port.
+    pub own: Encapsulation,
+    /// How many packets came in it.
+    pub count: u64,
+    /// The node that sent the last frame in any other encapsulation than the port's, and the
+    /// address of its remote.
+    pub last: Option<(Node, SocketAddrV4)>,
+}
+
+impl fmt::Display for EncapsulationLine {
+    fn fmt<W: fmt::Write>(&self, f: &mut fmt::Formatter<W>) -> fmt::Result {
+        let EncapsulationLine {
+            came,
+            own,
+            count,
+            last,
+        } = *self;
+        write!(
+            f,
+            "frames of another encapsulation: {came}, this port has {own} ({count} since the start)"
+        )?;
+        match last {
+            Some((node, place)) => write!(f, ", last from {node} at {place}"),
+            None => Ok(()),
+        }
+    }
+}
+
+/// Who sent the last frame in another encapsulation than the port's, and the address of its remote.
+fn last_sender(ports: &UdpRouterPorts, place: usize) -> Option<(Node, SocketAddrV4)> {
+    let switch = ports.ethernet().switches().get(place)?;
+    let sender = switch.notices().last_encapsulation?;
+    let address = ports.ethernet().sockets().remote(place, sender.end)?;
+    Some((sender.node, address))
+}
+
+/// Logs which other encapsulations came to a port, by its place among the Ethernet ports.
+fn tell_encapsulations_at<R: Log>(rt: &R, ports: &UdpRouterPorts, number: usize, place: usize) {
+    let Some(switch) = ports.ethernet().switches().get(place) else {
+        return;
+    };
+    for came in ALL {
+        let line = EncapsulationLine {
+            came,
+            own: switch.port().encapsulation,
+            count: came_in(switch.counts(), came),
+            last: last_sender(ports, place),
+        };
+        if line.count > 0 {
+            warn!(rt; target: "ipx", "port {number}: {line}");
         }
     }
 }
 
 /// Logs which other encapsulations came to each port.
 pub fn tell_encapsulations<R: Log>(rt: &R, ports: &UdpRouterPorts) {
-    for (place, port_index) in ports.port_indices().iter().enumerate() {
-        if let Some(switch) = switch_at(ports, *port_index) {
-            tell_encapsulations_at(rt, place + 1, switch);
+    for (index, port_index) in ports.port_indices().iter().enumerate() {
+        if let PortIndex::Ethernet(place) = *port_index {
+            tell_encapsulations_at(rt, ports, index + 1, place);
         }
     }
 }

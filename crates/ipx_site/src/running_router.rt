@@ -358,7 +358,7 @@ impl<'a, R: SystemClock> RunningRouter<'a, R> {
         // So are its drops.
         ensures drops { AreDropsLogged self.new.core.core.core.core.outcomes self.new.core.drops
             (drop_counts self.new.ports.ethernet.sockets.ethernet.items self.new.ports.port_indices.items)
-            now self.old.drops self.new.drops }
+            self.new.ports.ethernet.switches.items self.new.ports.port_indices.items now self.old.drops self.new.drops }
         // It notes this time for its files if that is due.
         ensures written { IsDoneIfDue 10000 now self.old.written self.new.written }
     {

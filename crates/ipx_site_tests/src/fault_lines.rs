@@ -32,7 +32,7 @@ const HOST: &str =
     "network = \"00000011\"\naddress = \"10.1.0.20\"\nrouter = \"10.1.0.1\"\nsocket = \"4002\"\n";
 
 /// A port, what follows it in the file of a router, and how the line of the fault ends.
-const SITES: [(&str, &str, &str); 43] = [
+const SITES: [(&str, &str, &str); 49] = [
     (
         "[[port]]\nnetwork = \"00000011\n",
         PLAIN,
@@ -188,6 +188,36 @@ const SITES: [(&str, &str, &str); 43] = [
         VXLAN,
         "remotes = [\"10.1.0.2\", 10]",
         "; entry 2 is no text in double quotes",
+    ),
+    (
+        WIRE,
+        "remotes = [\"any\"]",
+        "; \"any\" needs tunnel = \"l2tpv3\" and a cookie of 8 bytes: without, anybody could become the remote",
+    ),
+    (
+        VXLAN,
+        "remotes = [\"any\"]",
+        "; \"any\" needs tunnel = \"l2tpv3\" and a cookie of 8 bytes: without, anybody could become the remote",
+    ),
+    (
+        WIRE,
+        "tunnel = \"l2tpv3\"\nsession = 1\nremotes = [\"any\"]",
+        "; \"any\" needs tunnel = \"l2tpv3\" and a cookie of 8 bytes: without, anybody could become the remote",
+    ),
+    (
+        WIRE,
+        "tunnel = \"l2tpv3\"\nsession = 1\ncookie = \"01234567\"\nremotes = [\"any\"]",
+        "; \"any\" needs tunnel = \"l2tpv3\" and a cookie of 8 bytes: without, anybody could become the remote",
+    ),
+    (
+        WIRE,
+        "tunnel = \"l2tpv3\"\nsession = 1\ncookie = \"0123456789abcdef\"\nremotes = [\"any\", \"10.1.0.2\"]",
+        "; \"10.1.0.2\" is beside \"any\", which must be alone",
+    ),
+    (
+        WIRE,
+        "tunnel = \"l2tpv3\"\nsession = 1\ncookie = \"0123456789abcdef\"\nremotes = [\"10.1.0.2\", \"any\"]",
+        "; \"any\" must be alone in the list",
     ),
     (
         WIRE,

@@ -17,6 +17,8 @@ mod files;
 #[cfg(test)]
 mod fixture;
 #[cfg(test)]
+mod frame_lines;
+#[cfg(test)]
 mod internetworks;
 #[cfg(test)]
 mod ipxnet_files;

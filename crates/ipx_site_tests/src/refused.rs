@@ -1,7 +1,7 @@
 //! Parsing the files of a site when out of memory: a file is parsed as it is, or memory runs out.
 //! Run these with each allocation refused.
 
-use ipx_config::{ConfigError, PortConfig, ports_to_texts, read_host, read_site};
+use ipx_config::{ConfigError, PortConfig, RemotesConfig, ports_to_texts, read_host, read_site};
 use ipx_rate_limits::limits_of;
 use ipx_site::static_neighbours_of;
 
@@ -82,7 +82,10 @@ const CUT: &str = "network = ";
 fn reached(port: &PortConfig) -> usize {
     match port {
         PortConfig::Rfc1234(port) => port.peers.len(),
-        PortConfig::Ethernet(port) => port.ends.len(),
+        PortConfig::Ethernet(port) => match &port.remotes {
+            RemotesConfig::Listed(ends) => ends.len(),
+            RemotesConfig::Learned => 0,
+        },
         PortConfig::Ipxnet(port) => port.peers.len(),
     }
 }

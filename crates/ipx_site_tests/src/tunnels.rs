@@ -2,7 +2,7 @@
 //! of each such port at the start, and each fault with its line.
 
 use crate::fixture::{site, site_line};
-use ipx_config::{EthernetPortConfig, PortConfig, RouterConfig, ports_to_texts};
+use ipx_config::{EthernetPortConfig, PortConfig, RemotesConfig, RouterConfig, ports_to_texts};
 use ipx_tunnels::{Cookie, Session, Tunnel, Vni};
 use std::alloc::AllocError;
 use std::net::{Ipv4Addr, SocketAddrV4};
@@ -63,14 +63,24 @@ fn ethernet(site: &RouterConfig, index: usize) -> Option<&EthernetPortConfig> {
     }
 }
 
+/// Whether these remotes are listed, whose IP addresses begin with 10.8.0.
+fn has_remotes(remotes: &RemotesConfig, ends: &[(u8, u16)]) -> bool {
+    match remotes {
+        RemotesConfig::Listed(listed) => {
+            listed.len() == ends.len()
+                && listed.iter().zip(ends).all(|(place, (last, udp_port))| {
+                    *place == SocketAddrV4::new(Ipv4Addr::new(10, 8, 0, *last), *udp_port)
+                })
+        }
+        RemotesConfig::Learned => false,
+    }
+}
+
 /// Whether a port has this tunnel, UDP port and remotes, whose IP addresses begin with 10.8.0.
 fn is_port(port: &EthernetPortConfig, tunnel: Tunnel, udp_port: u16, ends: &[(u8, u16)]) -> bool {
     port.tunnel == tunnel
         && port.udp_port == udp_port
-        && port.ends.len() == ends.len()
-        && port.ends.iter().zip(ends).all(|(place, (last, udp_port))| {
-            *place == SocketAddrV4::new(Ipv4Addr::new(10, 8, 0, *last), *udp_port)
-        })
+        && has_remotes(&port.remotes, ends)
 }
 
 #[test]
@@ -326,6 +336,66 @@ fn lines_of_tunnels(rt: HostRuntime) -> Result<(), AllocError> {
         let text = format!(in rt.alloc(); "{START}{rest}\n")?;
         assert_eq!(rt; site_line(rt.alloc(), text.as_str())?.as_str(), line);
     }
+    Ok(())
+}
+
+/// An Ethernet port whose remotes are "any" and what else it has, with what is printed of it.
+const ANY: [(&str, &str); 9] = [
+    (
+        "tunnel = \"l2tpv3\"\nsession = 1\ncookie = \"0123456789abcdef\"\nremotes = [\"any\"]",
+        "none",
+    ),
+    (
+        "tunnel = \"l2tpv3\"\nsession = 1\ncookie = \"0123456789abcdef\"\npeer_cookie = \"\"\nremotes = [\"any\"]",
+        "none",
+    ),
+    ("udp_port = 24002\nremotes = [\"any\"]", REMOTES),
+    ("tunnel = \"vxlan\"\nvni = 42\nremotes = [\"any\"]", REMOTES),
+    ("tunnel = \"l2tpv3\"\nsession = 1\nremotes = [\"any\"]", REMOTES),
+    (
+        "tunnel = \"l2tpv3\"\nsession = 1\ncookie = \"01234567\"\npeer_cookie = \"0123456789abcdef\"\nremotes = [\"any\"]",
+        REMOTES,
+    ),
+    (
+        "tunnel = \"l2tpv3\"\nsession = 1\ncookie = \"0123456789abcdef\"\nremotes = [\"any\", \"10.8.0.7\"]",
+        REMOTES,
+    ),
+    (
+        "tunnel = \"l2tpv3\"\nsession = 1\ncookie = \"0123456789abcdef\"\nremotes = [\"10.8.0.7\", \"any\"]",
+        REMOTES,
+    ),
+    (
+        "tunnel = \"l2tpv3\"\nsession = 1\ncookie = \"0123456789abcdef\"\nremotes = \"any\"",
+        REMOTES,
+    ),
+];
+
+#[test]
+fn lines_of_learned_remotes(rt: HostRuntime) -> Result<(), AllocError> {
+    for (rest, line) in ANY {
+        let text = format!(in rt.alloc(); "{START}{rest}\n")?;
+        assert_eq!(rt; site_line(rt.alloc(), text.as_str())?.as_str(), line);
+    }
+    Ok(())
+}
+
+/// What is printed at the start of a port that learns where its remote is.
+#[test]
+fn text_of_a_learned_remote(rt: HostRuntime) -> Result<(), AllocError> {
+    let text = format!(in rt.alloc();
+        "{START}tunnel = \"l2tpv3\"\nsession = 1\ncookie = \"0123456789abcdef\"\nremotes = [\"any\"]\n"
+    )?;
+    let Some(site) = site(rt.alloc(), text.as_str()) else {
+        panic!(rt; "the file has a fault");
+    };
+    assert!(rt; ethernet(&site, 0).is_some_and(|port| {
+        matches!(port.remotes, RemotesConfig::Learned)
+    }));
+    let texts = ports_to_texts(rt.alloc(), &site.ports)?;
+    assert_eq!(rt;
+        texts[0].as_str(),
+        "port 1 network 00000022 node 0a08000106a5 ethernet 802.2 l2tpv3 session 1 peer_session 1 cookie of 8 bytes peer_cookie of 8 bytes udp 10.8.0.1:1701 cost 1 remotes any (learned by session and cookie)"
+    );
     Ok(())
 }
 

@@ -1,7 +1,7 @@
 //! Files with Ethernet ports: what is parsed from them, and each fault with its line.
 
 use crate::fixture::{site, site_line};
-use ipx_config::{EthernetPortConfig, Kind, PortConfig, RouterConfig};
+use ipx_config::{EthernetPortConfig, Kind, PortConfig, RemotesConfig, RouterConfig};
 use ipx_ethernet::Encapsulation;
 use ipx_wire::{Network, Node};
 use std::alloc::AllocError;
@@ -42,6 +42,14 @@ fn wire(site: &RouterConfig, index: usize) -> Option<&EthernetPortConfig> {
     }
 }
 
+/// Whether a port lists these remotes.
+fn has_remotes(port: &EthernetPortConfig, ends: &[SocketAddrV4]) -> bool {
+    match &port.remotes {
+        RemotesConfig::Listed(listed) => listed.as_slice() == ends,
+        RemotesConfig::Learned => false,
+    }
+}
+
 fn is_first(port: &EthernetPortConfig) -> bool {
     let near = [
         SocketAddrV4::new(Ipv4Addr::LOCALHOST, 24001),
@@ -52,7 +60,7 @@ fn is_first(port: &EthernetPortConfig) -> bool {
         && port.address == [127, 0, 0, 1]
         && port.udp_port == 24002
         && port.cost == 1
-        && port.ends.as_slice() == near.as_slice()
+        && has_remotes(port, &near)
         && port.switched
 }
 
@@ -63,7 +71,7 @@ fn is_second(port: &EthernetPortConfig) -> bool {
         && port.address == [192, 0, 2, 10]
         && port.udp_port == 258
         && port.cost == 6
-        && port.ends.as_slice() == far.as_slice()
+        && has_remotes(port, &far)
         && !port.switched
 }
 

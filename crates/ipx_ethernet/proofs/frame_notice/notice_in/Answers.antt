@@ -1,4 +1,4 @@
-use Rattle.std.proofs.Common.{rules, ◌≡◌, ◌∙◌, Bool, true, false, ap, not, refl, subst, sym}
+use Rattle.std.proofs.Common.{◌≡◌, ◌∙◌, Bool, true, false, ap, not, refl, subst, sym}
 use denote.Enum.Bare.{sameb}
 use Rattle.ipx_ethernet.specs.contracts.encapsulation.Encapsulation.{the_type}
 use Rattle.ipx_ethernet.specs.declared.encapsulation.Encapsulation.{Encapsulation}

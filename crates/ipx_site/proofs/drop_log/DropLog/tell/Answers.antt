@@ -1,6 +1,8 @@
 use Rattle.std.proofs.Common.{ap, subst, sym, ◌∙◌}
 use Rattle.ipx_sockets.specs.Moments.{AreLoggedIfDue, IsLoggedIfDue}
+use Rattle.ipx_site.specs.FrameLog.{AreMistakesLogged}
 use Rattle.ipx_site.specs.TunnelLog.{drop_counts}
+use Rattle.ipx_site.specs.declared.frame_log.FrameLog.{FrameLog}
 use Rattle.ipx_site.specs.declared.tunnel_log.TunnelLog.{TunnelLog}
 use Rattle.ipx_site.specs.declared.drop_log.DropLog.{DropLog}
 use Rattle.ipx_sockets.specs.declared.throttled_log.ThrottledLog.{ThrottledLog}
@@ -25,4 +27,6 @@ returns g c =
       looped_source = subst (λ (l : ThrottledLog). IsLoggedIfDue c.args.source.looped_source.count now l new.looped_source) (ap (λ (d : DropLog). d.looped_source) r.rest) s.looped_source;
       at_tunnels = subst (λ (l : TunnelLog). AreLoggedIfDue (drop_counts c.args.ports.now.ethernet.sockets.ethernet.items c.args.ports.now.port_indices.items) now l.ports c.tell.new.self.ports)
           (ap (λ (d : DropLog). d.tunnels) s.rest ∙ ap (λ (d : DropLog). d.tunnels) r.rest) c.tell.ensures;
+      frames = subst (λ (l : FrameLog). AreMistakesLogged c.args.ports.now.ethernet.switches.items c.args.ports.now.port_indices.items now l c.tell-2.new.self)
+          (ap (λ (d : DropLog). d.frames) s.rest ∙ ap (λ (d : DropLog). d.frames) r.rest) c.tell-2.ensures;
     }

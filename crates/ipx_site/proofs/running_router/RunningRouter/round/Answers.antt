@@ -59,7 +59,7 @@ returns-clause-work g c =
     let totals : kept.totals ≡ with_refusals refused self.totals = c.keep.ensures.totals.1 in
     let told = subst (λ p. AreLoggedIfDue (counts_to_log (happened kept.totals kept.core p)) now self.warnings.causes kept.warnings.causes) c.keep.ensures.ports c.keep.ensures.told in
     let told_of = subst (λ (t : RouterCounts). AreLoggedIfDue (counts_to_log (happened t kept.core self.ports)) now self.warnings.causes kept.warnings.causes) totals told in
-    let logged = subst (λ p. AreDropsLogged kept.core.core.core.core.outcomes kept.core.drops (drop_counts p.ethernet.sockets.ethernet.items p.port_indices.items) now self.drops kept.drops) c.keep.ensures.ports c.keep.ensures.drops in
+    let logged = subst (λ p. AreDropsLogged kept.core.core.core.core.outcomes kept.core.drops (drop_counts p.ethernet.sockets.ethernet.items p.port_indices.items) p.ethernet.switches.items p.port_indices.items now self.drops kept.drops) c.keep.ensures.ports c.keep.ensures.drops in
     record {
       mid = kept.core;
       asks = subst (λ (m : ℕ). AsksAgain m self.asked kept.asked self.core kept.core) (sym moment) c.keep.ensures.core;
@@ -67,6 +67,6 @@ returns-clause-work g c =
       works = does_then refused self.ports kept.core now _ (notes_of self) (notes_of kept) c.add.new.self kept.warnings kept.drops moment c.keep.ensures.totals.2;
       totals = c.add.ensures ∙ ap (with_batch c.run_batch-batch.result) totals;
       warns = subst (λ (m : ℕ). AreLoggedIfDue (counts_to_log (happened (with_refusals refused self.totals) kept.core self.ports)) m self.warnings.causes kept.warnings.causes) (sym moment) told_of;
-      logs = subst (λ (m : ℕ). AreDropsLogged kept.core.core.core.core.outcomes kept.core.drops (drop_counts self.ports.ethernet.sockets.ethernet.items self.ports.port_indices.items) m self.drops kept.drops) (sym moment) logged;
+      logs = subst (λ (m : ℕ). AreDropsLogged kept.core.core.core.core.outcomes kept.core.drops (drop_counts self.ports.ethernet.sockets.ethernet.items self.ports.port_indices.items) self.ports.ethernet.switches.items self.ports.port_indices.items m self.drops kept.drops) (sym moment) logged;
       writes = subst (λ (m : ℕ). IsDoneIfDue 10000 m self.written kept.written) (sym moment) c.keep.ensures.written;
     }
