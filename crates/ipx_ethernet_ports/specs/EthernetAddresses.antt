@@ -111,6 +111,10 @@ ethernet_fds ethernet = map (λ w. raw_fd_of w.socket) ethernet
 abbrev pub remote_tunnels : List EthernetSocket → List Tunnel
 remote_tunnels ethernet = map (λ w. w.tunnel) ethernet
 
+-- what each of them dropped
+abbrev pub remote_drops : List EthernetSocket → List TunnelDrops
+remote_drops ethernet = map (λ w. w.drops) ethernet
+
 -- the place of a remote of a port, if it is known
 abbrev pub remote_at : Option EthernetSocket → ℕ → Option SocketAddrV4
 remote_at None end = None
@@ -121,7 +125,7 @@ abbrev pub tunnel_drops : Option EthernetSocket → Option TunnelDrops
 tunnel_drops None = None
 tunnel_drops (Some w) = if is_plain w.tunnel then None else Some w.drops
 
--- the size of the buffer in which the datagrams of a tunnel are made and received. A longer one is not sent
+-- the size of the buffer in which the datagrams of a tunnel are made and received. A longer one is refused
 abbrev pub datagram_room : ℕ
 datagram_room = 2048
 

@@ -5,7 +5,8 @@ ghost use Rattle.ipx_carrier.specs.Counting.{raised};
 ghost use Rattle.ipx_carrier.specs.Readiness.{AsksPortWithMark};
 ghost use Rattle.ipx_carrier.specs.ReadySet.{is_port_marked};
 ghost use Rattle.ipx_ethernet_ports.specs.EndTraffic.{failures_counted, frame_at};
-ghost use Rattle.ipx_ethernet_ports.specs.EthernetAddresses.{AsksMarkedPort, KnowsNoPlace, RefusesFrame, SendsByEthernetSockets, SendsFrame, bound_places, ethernet_events, ethernet_fds, is_learned, known_places, learning_sockets, place_of_end, place_of_sender, remote_at, remote_count, remote_counts, remote_places, remote_tunnels, sent_counted, tunnel_drops};
+ghost use Rattle.ipx_ethernet_ports.specs.EthernetAddresses.{AsksMarkedPort, KnowsNoPlace, RefusesFrame, SendsByEthernetSockets, SendsFrame, bound_places, ethernet_events, ethernet_fds, is_learned, known_places, learning_sockets, place_of_end, place_of_sender, remote_at, remote_count, remote_counts, remote_drops, remote_places, remote_tunnels, sent_counted, tunnel_drops};
+ghost use Rattle.ipx_ethernet_ports.specs.TunnelDrops.{no_drops};
 
 use crate::end_sockets::{EndSockets, FrameCame};
 use crate::remotes::Remotes;
@@ -92,12 +93,18 @@ impl EthernetSockets {
             ≡ learning_sockets self.old.ethernet.items ++ is_learned remotes ∷ []) }
         ensures tunnels { OnOk result (remote_tunnels self.new.ethernet.items
             ≡ remote_tunnels self.old.ethernet.items ++ tunnel ∷ []) }
+        ensures drops { OnOk result (remote_drops self.new.ethernet.items
+            ≡ remote_drops self.old.ethernet.items ++ no_drops ∷ []) }
         // The new socket was asked nothing, and the others were asked nothing more.
         ensures fresh { OnOk result (ethernet_events self.new.ethernet.items
             ≡ ethernet_events self.old.ethernet.items ++ [] ∷ []) }
         ensures marks { OnOk result (self.new.marks ≡ self.old.marks ++ true ∷ []) }
         ensures refused { OnErr result ((self.new.ethernet.items ≡ self.old.ethernet.items)
             × (self.new.marks ≡ self.old.marks)) }
+        ensures rest { (self.new.sent ≡ self.old.sent) × (self.new.failures ≡ self.old.failures)
+            × (self.new.faults ≡ self.old.faults) × (self.new.filtered ≡ self.old.filtered)
+            × (self.new.unknown_senders ≡ self.old.unknown_senders)
+            × (self.new.last_unknown ≡ self.old.last_unknown) }
     {
         let socket = PlacedSocket::bind(rt, at)?;
         let drops = TunnelDrops::new();

@@ -11,7 +11,8 @@ use Rattle.ipx_table_dump.specs.declared.client_places.ClientPlace.{ClientPlace}
 use Rattle.ipx_site.specs.KnownPlaces.{places_known}
 use Rattle.ipxnet_server.specs.declared.port.ServerPort.{ServerPort}
 use Rattle.ipx_ipxnet_ports.specs.ServerAddresses.{bound_places as bound_servers, prefixes_heard, server_events}
-use Rattle.ipx_ethernet_ports.specs.EthernetAddresses.{bound_places, ethernet_events, learning_sockets, remote_places, remote_tunnels}
+use Rattle.ipx_ethernet_ports.specs.EthernetAddresses.{bound_places, ethernet_events, learning_sockets, remote_drops, remote_places, remote_tunnels}
+use Rattle.ipx_ethernet_ports.specs.TunnelDrops.{no_drops}
 use Rattle.ipx_carrier.specs.declared.datagrams.Datagrams as OfDevice
 use Rattle.ipx_ipxnet_ports.specs.declared.place_sockets.PlaceSockets as OfPlaces
 use Rattle.ipx_ipxnet_ports.specs.declared.sockets.ServerSockets.{ServerSockets}
@@ -67,9 +68,9 @@ server_of_port secret known p =
 
 -- the ports of a file as those of a router. An RFC 1234 port has its peers, its access list, and a socket
 -- with the UDP port of its peers. An Ethernet port has its switch, and a socket with its tunnel and the places of
--- its remotes, or one that learns the place of its remote. An ipxnet port has its server, with this secret and notes of these clients, and a socket that accepts those
--- that may register. Each socket is bound where the file says, was asked nothing yet, and is marked: the first turn
--- asks it
+-- its remotes, or one that learns the place of its remote, and has dropped nothing. An ipxnet port has its server,
+-- with this secret and notes of these clients, and a socket that accepts those that may register. Each socket is
+-- bound where the file says, was asked nothing yet, and is marked: the first turn asks it
 pub record ArePortsBound {gd : OfDevice.Ghosts (SourceFilter UdpSockets)} {ge : OfSockets.Ghosts EthernetSockets} {gl : OfPlaces.Ghosts ServerSockets} (secret : Secret) (known : List ClientPlace) (ports : List PortConfig) (r : SitePortsRun gd ge gl) : Type 0 where
   pub port_indices : r.port_indices.items ≡ port_indices_of ports
   pub peers : peers_of r.datagrams.peers.items ≡ site_peers (datagram_ports ports)
@@ -80,6 +81,7 @@ pub record ArePortsBound {gd : OfDevice.Ghosts (SourceFilter UdpSockets)} {ge : 
   pub ends : remote_places r.ethernet.sockets.ethernet.items ≡ end_places (ethernet_ports ports)
   pub learned : learning_sockets r.ethernet.sockets.ethernet.items ≡ learning_ports (ethernet_ports ports)
   pub tunnels : remote_tunnels r.ethernet.sockets.ethernet.items ≡ map (λ p. p.tunnel) (ethernet_ports ports)
+  pub drops : remote_drops r.ethernet.sockets.ethernet.items ≡ map (λ p. no_drops) (ethernet_ports ports)
   pub ethernet_bound : bound_places r.ethernet.sockets.ethernet.items ≡ ethernet_places (ethernet_ports ports)
   pub servers : r.servers.servers.items ≡ map (server_of_port secret known) (ipxnet_ports ports)
   pub ipxnet_bound : bound_servers r.servers.sockets.sockets.items ≡ ipxnet_places (ipxnet_ports ports)

@@ -4,7 +4,8 @@ ghost use Rattle.std.specs.Prelude.{◌≡◌, ◌++◌, ◌∷◌, [], IfOk, On
 ghost use Rattle.ipx_config.specs.PortLists.{end_places, ethernet_places, ethernet_ports, learning_ports, learns_place, listed_places};
 ghost use Rattle.ipx_site.specs.KindPorts.{switch_of, ethernet_port_of};
 ghost use Rattle.ipx_carrier.specs.Traces.{v4_at};
-ghost use Rattle.ipx_ethernet_ports.specs.EthernetAddresses.{bound_places, ethernet_events, learning_sockets, remote_places, remote_tunnels};
+ghost use Rattle.ipx_ethernet_ports.specs.EthernetAddresses.{bound_places, ethernet_events, learning_sockets, remote_drops, remote_places, remote_tunnels};
+ghost use Rattle.ipx_ethernet_ports.specs.TunnelDrops.{no_drops};
 
 use ipx_carrier::socket_addr;
 use ipx_config::{EthernetPortConfig, PortConfig};
@@ -56,6 +57,8 @@ fn bind_ethernet_port<R: Net>(
         ≡ learning_sockets sockets.old.ethernet.items ++ learns_place port.now.remotes ∷ []) }
     ensures tunnels { OnOk result (remote_tunnels sockets.new.ethernet.items
         ≡ remote_tunnels sockets.old.ethernet.items ++ port.now.tunnel ∷ []) }
+    ensures drops { OnOk result (remote_drops sockets.new.ethernet.items
+        ≡ remote_drops sockets.old.ethernet.items ++ no_drops ∷ []) }
     ensures fresh { OnOk result (ethernet_events sockets.new.ethernet.items
         ≡ ethernet_events sockets.old.ethernet.items ++ [] ∷ []) }
     ensures marks { OnOk result (sockets.new.marks ≡ sockets.old.marks ++ true ∷ []) }
@@ -89,6 +92,8 @@ fn bind_ethernet_ports<R: Net>(
         learning_sockets s.ethernet.items ≡ learning_ports (ethernet_ports ports.now)) }
     ensures tunnels { IfOk result (λ s.
         remote_tunnels s.ethernet.items ≡ map (λ p. p.tunnel) (ethernet_ports ports.now)) }
+    ensures drops { IfOk result (λ s.
+        remote_drops s.ethernet.items ≡ map (λ p. no_drops) (ethernet_ports ports.now)) }
     ensures fresh { IfOk result (λ s.
         ethernet_events s.ethernet.items ≡ map (λ p. []) (ethernet_ports ports.now)) }
     ensures marks { IfOk result (λ s. s.marks ≡ map (λ p. true) (ethernet_ports ports.now)) }
@@ -117,7 +122,9 @@ pub fn ethernet_ports_of<R: Net>(
         learning_sockets w.sockets.ethernet.items ≡ learning_ports (ethernet_ports ports.now)) }
     ensures tunnels { IfOk result (λ w.
         remote_tunnels w.sockets.ethernet.items ≡ map (λ p. p.tunnel) (ethernet_ports ports.now)) }
-    // No socket was asked anything yet.
+    // No socket dropped anything or was asked anything yet.
+    ensures drops { IfOk result (λ w.
+        remote_drops w.sockets.ethernet.items ≡ map (λ p. no_drops) (ethernet_ports ports.now)) }
     ensures fresh { IfOk result (λ w.
         ethernet_events w.sockets.ethernet.items ≡ map (λ p. []) (ethernet_ports ports.now)) }
     // Each is marked, so that the first turn asks it.

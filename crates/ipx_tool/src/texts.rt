@@ -148,7 +148,8 @@ For an Ethernet port, with one Ethernet frame in each datagram:
   switch    true (default) or false: whether frames are forwarded between remotes
   tunnel    \"vxlan\" or \"l2tpv3\": what carries the frames; default: each datagram is one.
             With a tunnel the default of udp_port is 4789 for vxlan and 1701 for l2tpv3,
-            and remotes may be IP addresses alone, with that UDP port
+            and so is the port of a remote that is an IP address alone. By l2tpv3 with a
+            cookie of 16 digits remotes may be [\"any\"]: one, learned from its frames
   vni       of vxlan: the number of its network, 1 to 16777215
   session   of l2tpv3: the session that is received, 1 to 4294967295
   peer_session  of l2tpv3: the session that is sent; default: session
