@@ -38,17 +38,24 @@ class Guest(Card):
             "-object", f"filter-dump,id=dump,netdev=ipx,file={self.path}", program="qemu-system-i386")
 
 
-def recipe_router(wires, text, metrics):
-    """The router of the printed file, with a port for a host more."""
+def recipe_router(wires, text):
+    """The router of the printed file, with files of its own, and a port for a host more."""
     ports = [WirePort("00000022", "802.3", (ROUTER, 4789), [(LINUX, 4789)]),
              WirePort("00000033", "802.2", (ROUTER, 1701), [(EMULATOR, 24001)]), UdpPort(OUTER, "127.0.0.1", OUTER_PORT, [HOST])]
     router = Router(wires, "recipes", ports)
-    wires.world.write("recipes.toml", f'metrics_file = "{metrics}"\n{text}{port_table(OUTER, "127.0.0.1", OUTER_PORT, [HOST])}')
+    names = {"metrics": "recipes.prom", "tables": "recipes.tables"}
+    files = "".join(f'{key}_file = "{wires.world.path(name)}"\n' for key, name in names.items())
+    wires.world.write("recipes.toml", files + text + port_table(OUTER, "127.0.0.1", OUTER_PORT, [HOST]))
     return router
 
 
 def check_guest(wires, router, host, guest):
     """What a guest by L2TPv3 says and is given."""
+    if any("romfile" in line for line in guest.process.said()):
+        leave_out("a guest by the line for L2TPv3", "ipxe-qemu is not installed")
+        return
+    if not wires.check("a guest starts by the line for L2TPv3", not guest.process.is_over(), str(guest.process.said()[:1] or "")):
+        return
     name = 'ipx_frames_total{port="2",outcome="other_type"}'
     found = router.figures(lambda found: found.get(name), SECONDS)
     wires.check("frames of a guest come by the line for L2TPv3", found.get(name), str(found.get(name)))
@@ -56,6 +63,25 @@ def check_guest(wires, router, host, guest):
     host.packet(packet)
     there = until(lambda: any(b"to a guest" in bytes_ for bytes_ in guest.frames(guest.port.node)), 5)
     wires.check("and it is given what a host sends", there, f"{len(guest.frames(guest.port.node))} frames")
+
+
+def taken_back(router, port):
+    """The frame by which a router that has stopped takes back the networks of its other ports, in their order: they have 16 hops."""
+    told = routes([(other.network, 16, port.cost) for other in router.ports if other is not port])
+    return port.sends(EVERYBODY, ipx(1, (port.network, EVERYBODY, RIP), (port.network, port.node, RIP), told))
+
+
+def check_farewell(wires, router, plug, guest):
+    """What `ipx farewell` sends by each kind of tunnel."""
+    router.process.end()
+    status = wires.world.start("recipes-farewell", "farewell", router.file).status(10)
+    gone = taken_back(router, plug.port)
+    wires.check("ipx farewell takes back by VXLAN, three times, byte by byte",
+                until(lambda: plug.take().count(gone) == 3, 5) and status == 0, f"status {status}, {plug.got.count(gone)} times")
+    if not guest.process.is_over():
+        gone = taken_back(router, guest.port)
+        wires.check("and by L2TPv3", until(lambda: guest.frames(guest.port.node).count(gone) == 3, 5),
+                    f"{guest.frames(guest.port.node).count(gone)} times")
 
 
 def check_recipes(wires):
@@ -76,7 +102,7 @@ def check_recipes(wires):
 def run_recipes(wires, far):
     """The same, in the router's network."""
     text = blocks(FILE, "toml", FILES)[0]
-    router = recipe_router(wires, text, wires.world.path("recipes.prom"))
+    router = recipe_router(wires, text)
     vxlan_port, l2tp_port, outer = router.ports
     vxlan_lines, qemu_line = blocks(LINES, "sh")[:2]
     bridge = blocks(BRIDGE, "sh")[1]
@@ -86,9 +112,9 @@ def run_recipes(wires, far):
         run(f"ip address add {LINUX}/24 dev far && ip address add {EMULATOR}/24 dev far && ip link set far up",
             # A pair of devices acts as the card and what is plugged in there.
             "ip link add eth1 type veth peer name plug && ip link set plug up")
-        # The bridge is there before its last line.
-        made, *rest = bridge.splitlines()
-        ran = subprocess.run("\n".join(["set -e", made, vxlan_lines, *rest]), shell=True, capture_output=True, text=True, check=False)
+        # Those for VXLAN put their device into the bridge, so its own line for it is left out.
+        made = [line for line in bridge.splitlines() if "ipx0" not in line]
+        ran = subprocess.run("\n".join(["set -e", *made, vxlan_lines]), shell=True, capture_output=True, text=True, check=False)
         plug = Device(vxlan_port, "plug", "0200000d0002")
         guest = Guest(wires, words_of(qemu_line), l2tp_port)
     wires.check("the lines of docs/INSTALL.md for VXLAN and its bridge", ran.returncode == 0 and not ran.stderr, ran.stderr)
@@ -101,6 +127,7 @@ def run_recipes(wires, far):
     wires.check("a station after the bridge of a VXLAN device is told, answered and reached, byte by byte",
                 told and not wrong and plug.got, wrong or f"{len(plug.all)} frames")
     check_guest(wires, router, host, guest)
+    check_farewell(wires, router, plug, guest)
     for one in (router.process, guest.process, plug, host):
         one.end()
 
@@ -185,7 +212,9 @@ def check_noise(wires):
     until(lambda: host.take() is not None and host.heard, 10)
     before = router.figures(lambda found: found.get("ipx_routes") is not None)
     flood_tunnels(random.Random(wires.seed), ports, remotes)
-    lost = [not_read(*port.place) for port in ports]
+
+    def lost():
+        return [not_read(*port.place) for port in ports]
 
     def counted(found):
         names = collections.Counter()
@@ -193,11 +222,11 @@ def check_noise(wires):
             for number in (1, 2):
                 if name.startswith(f'ipx_tunnel_dropped_total{{port="{number}"'):
                     names[number] += value
-        return [names[1] + lost[0], names[2] + lost[1]]
+        return [names[number] + missed for number, missed in enumerate(lost(), 1)]
 
     found = router.figures(lambda found: counted(found) == [MANY, MANY])
     wires.check("a hundred thousand datagrams at each kind of tunnel that are no frame are each counted", counted(found) == [MANY, MANY],
-                f"{counted(found)}, of which {lost} were not read")
+                f"{counted(found)}, of which {lost()} were not read")
     reasons = {1: ("short", "other_vni", "not_vxlan"), 2: ("short", "control", "other_version", "other_session", "other_cookie")}
     missing = [dropped(number, reason) for number, some in reasons.items() for reason in some if not found.get(dropped(number, reason))]
     wires.check("by each reason", not missing, str(missing))

@@ -16,24 +16,25 @@ from wire_taps import NEW_NETWORK, Device, are_all_there, exchange, own_network
 from wire_world import End, Router, UdpPort, WirePort, difference, with_colons
 
 NETWORKS, OUTER = ["00000081", "00000082", "00000083", "00000084"], "00000011"
-# The router, the machine with the devices, and two others there: a stranger, and a host of RFC 1234.
-NEAR, FAR, STRANGER, HOST = "10.99.8.1", "10.99.8.7", "10.99.8.8", "127.0.0.20"
-VXLAN_PORT, FIRST_VNI, L2TP_PORT = 4789, 42, 1701
+# The router, the machine with the devices, an unknown sender there, and a host of RFC 1234.
+NEAR, FAR, UNKNOWN, HOST = "10.99.8.1", "10.99.8.7", "10.99.8.8", "127.0.0.20"
+VXLAN_PORT, FIRST_VNI = 4789, 42
 SESSION, PEER_SESSION = 0x11223344, 0x55667788
-# The keys of a session with each size of cookie, and the words of QEMU for the other side of it.
-COOKIES = {
+# The keys of sessions, and the words of QEMU for the other side of each. Its counter is where the sublayer is.
+SESSIONS = {
     "no cookie": ({}, []),
     "a cookie of 4 bytes": ({"cookie": "a1a2a3a4", "peer_cookie": "b1b2b3b4"},
                             ["txcookie=0xa1a2a3a4", "rxcookie=0xb1b2b3b4"]),
     "a cookie of 8 bytes": ({"cookie": "a1a2a3a4a5a6a7a8", "peer_cookie": "b1b2b3b4b5b6b7b8"},
                             ["cookie64=on", "txcookie=0xa1a2a3a4a5a6a7a8", "rxcookie=0xb1b2b3b4b5b6b7b8"]),
+    "a sublayer": ({"sublayer": True}, ["counter=on"]),
 }
 
 
 def keys(kind, **more):
     """The lines of a tunnel in a router's file."""
     return f'tunnel = "{kind}"\n' + "".join(
-        f'{key} = "{value}"\n' if isinstance(value, str) else f"{key} = {value}\n" for key, value in more.items())
+        f'{key} = "{value}"\n' if isinstance(value, str) else f"{key} = {str(value).lower()}\n" for key, value in more.items())
 
 
 def run(*lines):
@@ -47,7 +48,12 @@ def dropped(number, reason):
 
 
 def lines_with(process, words):
-    return [line for line in process.said() if words in line]
+    """The lines with these words, once there is one: a router says them after it has written its figures."""
+    def found():
+        return [line for line in process.said() if words in line]
+
+    until(found, 5)
+    return found()
 
 
 # ---- VXLAN
@@ -77,7 +83,7 @@ def make_veth(far):
 
 def make_vxlans():
     """The end of it in the other network, and a VXLAN device there for each port."""
-    run(f"ip address add {FAR}/24 dev far && ip address add {STRANGER}/24 dev far && ip link set far up")
+    run(f"ip address add {FAR}/24 dev far && ip address add {UNKNOWN}/24 dev far && ip link set far up")
     for at in range(4):
         run(f"ip link add ipx{at} type vxlan id {FIRST_VNI + at} local {FAR} remote {NEAR} dstport {VXLAN_PORT + at}",
             f"ip link set ipx{at} mtu 1500 up")
@@ -100,7 +106,7 @@ def check_tshark(wires, devices):
 
 
 def check_wrong_vxlan(wires, router, devices):
-    """What is no frame of a port's network is counted by its reason and told once, and a stranger's frame is nobody's."""
+    """What is no frame of a port's network is counted by its reason and told once. A frame of an unknown sender is nobody's."""
     port, one = router.ports[0], devices[0]
     good = frame(port.kind, port.node, one.station, ipx(0, (OUTER, node(HOST), "4002"), (port.network, one.station, "4001"), b"no"))
     with socket.socket(socket.AF_INET, socket.SOCK_DGRAM) as there:
@@ -112,9 +118,9 @@ def check_wrong_vxlan(wires, router, devices):
         packet = ipx(0, (OUTER, node(HOST), "4002"), (port.network, one.station, "4003"), b"yes")
         there.sendto(vxlan(FIRST_VNI, frame(port.kind, port.node, one.station, packet), reserved=b"\xff\xff\xff"), port.place)
         router.wants(packet, port)
-    with socket.socket(socket.AF_INET, socket.SOCK_DGRAM) as stranger:
-        stranger.bind((STRANGER, 0))
-        stranger.sendto(vxlan(FIRST_VNI, good), port.place)
+    with socket.socket(socket.AF_INET, socket.SOCK_DGRAM) as unknown:
+        unknown.bind((UNKNOWN, 0))
+        unknown.sendto(vxlan(FIRST_VNI, good), port.place)
     wanted = {dropped(1, "short"): 2, dropped(1, "other_vni"): 2, dropped(1, "not_vxlan"): 3, dropped(1, "control"): 0,
               "ipx_frames_unknown_senders_total": 1, dropped(2, "other_vni"): 0}
     found = router.figures(lambda found: all(found.get(name) == value for name, value in wanted.items()))
@@ -184,24 +190,24 @@ class Card:
 
 
 class Sessions:
-    """A router with a port for each size of cookie, a card at each, and one with another cookie than the router's."""
+    """A router with a port for each of these sessions, a card at each, and one with another cookie than the router's."""
 
     def __init__(self, wires):
         self.wires, self.rng = wires, random.Random(wires.seed)
         first = free_port(["127.0.0.1", HOST], 10)
-        places = [("127.0.0.1", first + 5 + at) for at in range(4)]
+        places = [("127.0.0.1", first + 5 + at) for at in range(5)]
         # The last card is at the same port of the router as the one with 8 bytes.
-        ends = [[places[0]], [places[1]], [places[2], places[3]]]
+        ends = [[places[0]], [places[1]], [places[2], places[4]], [places[3]]]
         self.ports = [WirePort(NETWORKS[at], KINDS[at], ("127.0.0.1", first + 1 + at), ends[at],
-                               keys=keys("l2tpv3", session=SESSION, peer_session=PEER_SESSION, **cookies))
-                      for at, (cookies, _) in enumerate(COOKIES.values())]
+                               keys=keys("l2tpv3", session=SESSION, peer_session=PEER_SESSION, **more))
+                      for at, (more, _) in enumerate(SESSIONS.values())]
         outer = UdpPort(OUTER, "127.0.0.1", first, [HOST])
         self.host = End(outer, (HOST, first), node(HOST))
         self.router = Router(wires, "l2tpv3", [*self.ports, outer])
-        words = [words for _, words in COOKIES.values()]
-        self.cards = [Card(wires, at, self.ports[at], places[at], words[at]) for at in range(3)]
+        words = [words for _, words in SESSIONS.values()]
+        self.cards = [Card(wires, at, self.ports[at], places[at], words[at]) for at in range(4)]
         other = ["cookie64=on", "txcookie=0xa1a2a3a4a5a6a7a9", "rxcookie=0xb1b2b3b4b5b6b7b8"]
-        self.other = Card(wires, 3, self.ports[2], places[3], other)
+        self.other = Card(wires, 4, self.ports[2], places[4], other)
         self.given = {card.station: [] for card in self.cards}
 
     def send(self):
@@ -231,9 +237,9 @@ def wrong_sessions(it):
         for wrong in (head[:7], b"\x80" + head[1:] + good, b"\xc8" + head[1:] + good, b"\0\x02" + head[2:] + good,
                       head[:4] + struct.pack(">I", PEER_SESSION) + good, head[:4] + struct.pack("<I", SESSION) + good):
             there.sendto(wrong, port.place)
-    with socket.socket(socket.AF_INET, socket.SOCK_DGRAM) as stranger:
-        stranger.bind(("127.0.0.1", 0))
-        stranger.sendto(head + good, port.place)
+    with socket.socket(socket.AF_INET, socket.SOCK_DGRAM) as unknown:
+        unknown.bind(("127.0.0.1", 0))
+        unknown.sendto(head + good, port.place)
     return {dropped(1, "short"): 1, dropped(1, "control"): 2, dropped(1, "other_version"): 1, dropped(1, "other_session"): 2,
             dropped(1, "other_cookie"): 0, dropped(1, "not_vxlan"): 0, "ipx_frames_unknown_senders_total": 1}
 
@@ -241,7 +247,7 @@ def wrong_sessions(it):
 def check_sessions(it):
     """The frames at the cards, and what is counted."""
     wires, router = it.wires, it.router
-    figures = [f'ipx_frames_total{{port="{at}",outcome="other_type"}}' for at in range(1, 4)]
+    figures = [f'ipx_frames_total{{port="{at}",outcome="other_type"}}' for at in range(1, 5)]
     cookie = dropped(3, "other_cookie")
     found = router.figures(lambda found: all(map(found.get, [*figures, cookie])), SECONDS)
     wires.check("frames of iPXE come by L2TPv3 from cards of QEMU", all(map(found.get, figures)), str(list(map(found.get, figures))))
@@ -249,7 +255,7 @@ def check_sessions(it):
     told = lines_with(router.process, "sends l2tpv3 with another cookie")
     wires.check("and told once, with the sender", len(told) == 1 and f"port 3: 127.0.0.1:{it.other.end[1]} " in told[0], str(told))
     it.send()
-    for (what, _), card in zip(COOKIES.items(), it.cards):
+    for (what, _), card in zip(SESSIONS.items(), it.cards):
         good = until(lambda: it.took(card), 5)  # pylint: disable=cell-var-from-loop
         sizes = sorted({len(bytes_) for bytes_ in it.given[card.station]})
         wires.check(f"a card of QEMU is given what the router says and hands on by L2TPv3 with {what}, in {card.port.kind}, "
