@@ -203,7 +203,8 @@ class Sessions:
                       for at, (more, _) in enumerate(SESSIONS.values())]
         outer = UdpPort(OUTER, "127.0.0.1", first, [HOST])
         self.host = End(outer, (HOST, first), node(HOST))
-        self.router = Router(wires, "l2tpv3", [*self.ports, outer])
+        # The port of the host is the first one, so that no Ethernet port has the same number among those of its kind.
+        self.router = Router(wires, "l2tpv3", [outer, *self.ports])
         words = [words for _, words in SESSIONS.values()]
         self.cards = [Card(wires, at, self.ports[at], places[at], words[at]) for at in range(4)]
         other = ["cookie64=on", "txcookie=0xa1a2a3a4a5a6a7a9", "rxcookie=0xb1b2b3b4b5b6b7b8"]
@@ -240,20 +241,20 @@ def wrong_sessions(it):
     with socket.socket(socket.AF_INET, socket.SOCK_DGRAM) as unknown:
         unknown.bind(("127.0.0.1", 0))
         unknown.sendto(head + good, port.place)
-    return {dropped(1, "short"): 1, dropped(1, "control"): 2, dropped(1, "other_version"): 1, dropped(1, "other_session"): 2,
-            dropped(1, "other_cookie"): 0, dropped(1, "not_vxlan"): 0, "ipx_frames_unknown_senders_total": 1}
+    return {dropped(2, "short"): 1, dropped(2, "control"): 2, dropped(2, "other_version"): 1, dropped(2, "other_session"): 2,
+            dropped(2, "other_cookie"): 0, dropped(2, "not_vxlan"): 0, "ipx_frames_unknown_senders_total": 1}
 
 
 def check_sessions(it):
     """The frames at the cards, and what is counted."""
     wires, router = it.wires, it.router
-    figures = [f'ipx_frames_total{{port="{at}",outcome="other_type"}}' for at in range(1, 5)]
-    cookie = dropped(3, "other_cookie")
+    figures = [f'ipx_frames_total{{port="{at}",outcome="other_type"}}' for at in range(2, 6)]
+    cookie = dropped(4, "other_cookie")
     found = router.figures(lambda found: all(map(found.get, [*figures, cookie])), SECONDS)
     wires.check("frames of iPXE come by L2TPv3 from cards of QEMU", all(map(found.get, figures)), str(list(map(found.get, figures))))
     wires.check("what comes with another cookie is counted", found.get(cookie), str(found.get(cookie)))
     told = lines_with(router.process, "sends l2tpv3 with another cookie")
-    wires.check("and told once, with the sender", len(told) == 1 and f"port 3: 127.0.0.1:{it.other.end[1]} " in told[0], str(told))
+    wires.check("and told once, with the sender", len(told) == 1 and f"port 4: 127.0.0.1:{it.other.end[1]} " in told[0], str(told))
     it.send()
     for (what, _), card in zip(SESSIONS.items(), it.cards):
         good = until(lambda: it.took(card), 5)  # pylint: disable=cell-var-from-loop
@@ -264,7 +265,7 @@ def check_sessions(it):
     found = router.figures(lambda found: all(found.get(name) == value for name, value in wanted.items()))
     found = {name: found.get(name) for name in wanted}
     wires.check("what is no frame of an L2TPv3 session is counted by its reason", found == wanted, "" if found == wanted else str(found))
-    told = lines_with(router.process, f"port 1: 127.0.0.1:{it.cards[0].end[1]} sends ")
+    told = lines_with(router.process, f"port 2: 127.0.0.1:{it.cards[0].end[1]} sends ")
     wires.check("and told once, with the sender", len(told) == 1 and "this port has l2tpv3 of session" in told[0], str(told))
     wires.check("the host got nothing of all that", not it.host.take(), str(len(it.host.got)))
 
