@@ -1,16 +1,16 @@
 -- which remotes of an Ethernet port a value lists
-use Rattle.std.proofs.Common.{Vec, ◌≡◌, ◌≤◌, Result, Ok, Err, ℕ, List, [], ◌∷◌, ◌++◌, length, Option, Some, None, true, false, ap, inl, inr, refl, sym, ◌∙◌, subst, arith, append-nil, lit≤}
+use Rattle.std.proofs.Common.{Vec, ◌≡◌, ◌≤◌, Result, Ok, Err, ℕ, List, [], ◌∷◌, ◌++◌, length, Option, Some, None, true, false, ap, inl, inr, refl, sym, ◌∙◌, subst, arith, append-nil, lit≤, lit<}
 use Rattle.std.proofs.lemmas.Option.{same_Some}
-use Rattle.std.proofs.NetLemmas.Ipv4.{read_ipv4_complete}
+use Rattle.std.proofs.NetLemmas.Ipv4.{read_ipv4_complete, read_ipv4_none}
 use Rattle.std.proofs.NetLemmas.Numbers.{NoDigit}
 use Rattle.std.proofs.NetLemmas.Options.{same_parts}
 use Rattle.std.proofs.NetLemmas.Theorems.{IsIpv4Text_unique, IsSocketV4Text_unique}
 use Rattle.std.specs.Global.{Global}
 use Rattle.std.specs.Net.Addr.{ipv4_octets}
 use Rattle.std.specs.Net.Grammar.{IsDotted, IsSocketV4Text}
-use Rattle.std.specs.Net.Reader.{read_ipv4, read_number, read_octet}
+use Rattle.std.specs.Net.Reader.{read_ipv4}
 use Rattle.std.specs.Net.Socket.{v4_ip}
-use Rattle.std.specs.Prelude.{IfOk, codes, slice_index_or}
+use Rattle.std.specs.Prelude.{IfOk, MatchOption, codes, slice_index_or, ⊤}
 use Rattle.std.specs.declared.net.ipv4_addr.Ipv4Addr.{Ipv4Addr}
 use Rattle.std.specs.declared.net.socket_addr.SocketAddrV4.{SocketAddrV4}
 use Rattle.toml.specs.Data.{Data, Items, no_items, item, as_array, as_str}
@@ -120,9 +120,9 @@ not_remotes tunnel own d ends are none others (are', all) =
 
 -- ---- the word any
 
+-- its first byte is a hex digit, and the next one neither a digit nor a dot
 any_unread : read_ipv4 (codes "any") ≡ None
-unfolding read_ipv4 read_octet read_number
-any_unread = refl
+any_unread = read_ipv4_none (97 ∷ []) (110 ∷ 121 ∷ []) (lit< tt, tt) (lit≤ tt) (omega arith)
 
 -- it is no IP address
 any_is_no_ip : (text octets : List ℕ) → text ≡ codes "any" → IsDotted text octets → ⊥
@@ -130,7 +130,7 @@ any_is_no_ip text octets is dotted =
     let whole : read_ipv4 (text ++ []) ≡ Some (octets, []) = read_ipv4_complete text octets [] dotted (lit≤ tt) in
     let texts : text ++ [] ≡ codes "any" = append-nil text ∙ is in
     let none : None ≡ Some (octets, []) = sym any_unread ∙ ap read_ipv4 (sym texts) ∙ whole in
-    absurd (cc)
+    subst (λ (o : Option (List ℕ × List ℕ)). MatchOption o ⊤ (λ _. ⊥)) none tt
 
 -- and no place
 any_is_no_place : (text : List ℕ) (p : SocketAddrV4) → text ≡ codes "any" → IsSocketV4Text text p → ⊥
@@ -139,7 +139,7 @@ any_is_no_place text p is (ip, port, split, is_ip, is_port) =
     let front : read_ipv4 (ip ++ port) ≡ Some (ipv4_octets (v4_ip p), port) = read_ipv4_complete ip (ipv4_octets (v4_ip p)) port is_ip stop in
     let texts : codes "any" ≡ ip ++ port = sym is ∙ split in
     let none : None ≡ Some (ipv4_octets (v4_ip p), port) = sym any_unread ∙ ap read_ipv4 texts ∙ front in
-    absurd (cc)
+    subst (λ (o : Option (List ℕ × List ℕ)). MatchOption o ⊤ (λ _. ⊥)) none tt
 
 any_is_no_end : (usual : Option ℕ) (v : Data) (p : SocketAddrV4) → as_str v ≡ Some (codes "any") → IsEthernetEnd usual v p → ⊥
 any_is_no_end usual v p any (inl (text, is, writes)) =

@@ -56,7 +56,8 @@ pub use ipxnet_port::{IpxnetPortConfig, Peer};
 pub use key::Key;
 pub use reading::read_site;
 pub use site::{
-    Accept, Directed, EthernetPortConfig, Kind, PortConfig, RemotesConfig, Rfc1234PortConfig, RouterConfig,
+    Accept, Directed, EthernetPortConfig, Kind, PortConfig, RemotesConfig, Rfc1234PortConfig,
+    RouterConfig,
 };
 pub use start_lines::{dotted, others, ports_to_texts, reached_to_text};
 pub use statics::{StaticEntry, StaticItem, is_one_source};

@@ -6,7 +6,9 @@ ghost use Rattle.ipx_config.specs.Checked.{clients_text, dealings_text, directed
 
 use crate::ethernet_values::word_of;
 use crate::ipxnet_port::IpxnetPortConfig;
-use crate::site::{Accept, Directed, EthernetPortConfig, PortConfig, RemotesConfig, Rfc1234PortConfig};
+use crate::site::{
+    Accept, Directed, EthernetPortConfig, PortConfig, RemotesConfig, Rfc1234PortConfig,
+};
 use crate::tunnel_lines::tunnel_to_text;
 use ipx_carrier::node_of;
 use ipx_wire::{Network, Node};
