@@ -166,7 +166,10 @@ const OTHERS: [(&[u8], TunnelFault); 4] = [
         b"\x80\x03\0\0\0\0\0\x01\xa1\xa2\xa3\xa4\xa5\xa6\xa7\xa8abc",
         TunnelFault::Control,
     ),
-    (b"\0\x03\0\0\0\0\0\x01\xa1\xa2\xa3\xa4", TunnelFault::Short(12)),
+    (
+        b"\0\x03\0\0\0\0\0\x01\xa1\xa2\xa3\xa4",
+        TunnelFault::Short(12),
+    ),
 ];
 
 /// A datagram without a frame of the session changes no place, whether one is known or not. It is

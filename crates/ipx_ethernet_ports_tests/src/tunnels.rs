@@ -300,7 +300,13 @@ fn random_datagrams_by_vxlan(rt: HostRuntime) -> Result<(), Fail> {
     let mut port = bound(&rt, alloc, here, &[there], VXLAN)?;
     let mut peer = bound(&rt, alloc, there, &[here], Tunnel::Plain)?;
     takes_nothing_random(&rt, &mut port, &mut peer, 0x9e37_79b9_7f4a_7c15)?;
-    takes(&rt, &mut port, &mut peer, b"\x08\0\0\0\0\0\x2a\0abc", Some(b"abc"))
+    takes(
+        &rt,
+        &mut port,
+        &mut peer,
+        b"\x08\0\0\0\0\0\x2a\0abc",
+        Some(b"abc"),
+    )
 }
 
 #[test]

@@ -219,11 +219,7 @@ const SITES: [(&str, &str, &str); 49] = [
         "tunnel = \"l2tpv3\"\nsession = 1\ncookie = \"0123456789abcdef\"\nremotes = [\"10.1.0.2\", \"any\"]",
         "; \"any\" must be alone in the list",
     ),
-    (
-        WIRE,
-        "vni = 42",
-        "port 1: vni needs tunnel = \"vxlan\"",
-    ),
+    (WIRE, "vni = 42", "port 1: vni needs tunnel = \"vxlan\""),
     (
         WIRE,
         "tunnel = \"vxlan\"\nvni = \"42\"",

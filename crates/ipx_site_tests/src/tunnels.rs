@@ -78,9 +78,7 @@ fn has_remotes(remotes: &RemotesConfig, ends: &[(u8, u16)]) -> bool {
 
 /// Whether a port has this tunnel, UDP port and remotes, whose IP addresses begin with 10.8.0.
 fn is_port(port: &EthernetPortConfig, tunnel: Tunnel, udp_port: u16, ends: &[(u8, u16)]) -> bool {
-    port.tunnel == tunnel
-        && port.udp_port == udp_port
-        && has_remotes(&port.remotes, ends)
+    port.tunnel == tunnel && port.udp_port == udp_port && has_remotes(&port.remotes, ends)
 }
 
 #[test]
@@ -103,16 +101,32 @@ fn reads_tunnels(rt: HostRuntime) {
         sublayer: false,
     });
     assert_eq!(rt; site.ports.len(), 4);
-    assert!(rt; ethernet(&site, 0).is_some_and(|port| {
-        is_port(port, Tunnel::Vxlan(Vni([0, 0, 42])), 4789, &[(7, 4789), (9, 8472)])
-    }));
-    assert!(rt; ethernet(&site, 1).is_some_and(|port| {
-        is_port(port, full, 1701, &[(7, 24001), (7, 24003), (9, 1701)])
-    }));
+    assert!(rt;
+        ethernet(&site, 0).is_some_and(|port| {
+            is_port(
+                port,
+                Tunnel::Vxlan(Vni([0, 0, 42])),
+                4789,
+                &[(7, 4789), (9, 8472)]
+            )
+        })
+    );
+    assert!(rt;
+        ethernet(&site, 1).is_some_and(|port| {
+            is_port(port, full, 1701, &[(7, 24001), (7, 24003), (9, 1701)])
+        })
+    );
     assert!(rt; ethernet(&site, 2).is_some_and(|port| is_port(port, short, 1701, &[(7, 24001)])));
-    assert!(rt; ethernet(&site, 3).is_some_and(|port| {
-        is_port(port, Tunnel::Vxlan(Vni([0xff, 0xff, 0xff])), 8472, &[(7, 8472)])
-    }));
+    assert!(rt;
+        ethernet(&site, 3).is_some_and(|port| {
+            is_port(
+                port,
+                Tunnel::Vxlan(Vni([0xff, 0xff, 0xff])),
+                8472,
+                &[(7, 8472)]
+            )
+        })
+    );
 }
 
 /// What is printed of these ports at the start.
@@ -195,7 +209,8 @@ const VNI: &str = "port 1: vni: expected a number from 1 to 16777215, such as 42
 
 const SESSION: &str = "port 1: session: expected a number from 1 to 4294967295, such as 1";
 
-const PEER_SESSION: &str = "port 1: peer_session: expected a number from 1 to 4294967295, such as 1";
+const PEER_SESSION: &str =
+    "port 1: peer_session: expected a number from 1 to 4294967295, such as 1";
 
 const COOKIE: &str =
     "port 1: cookie: expected 8 or 16 hex digits, such as \"0123456789abcdef\", or \"\" for no cookie";
@@ -288,10 +303,22 @@ const LINES: [(&str, &str); 40] = [
         "port 1: remotes is missing: expected a list of 1 to 256 address:port, each listed once, such as [\"127.0.0.1:24001\"]",
     ),
     ("udp_port = 4789\nremotes = [\"10.8.0.7\"]", REMOTES),
-    ("tunnel = \"vxlan\"\nvni = 42\nremotes = [\"10.8.0.7\"]", "none"),
-    ("tunnel = \"vxlan\"\nvni = 42\nremotes = [\"0.0.0.0\"]", REMOTES),
-    ("tunnel = \"vxlan\"\nvni = 42\nremotes = [\"10.8.0.7:0\"]", REMOTES),
-    ("tunnel = \"vxlan\"\nvni = 42\nremotes = [\"10.8.0.1\"]", REMOTES),
+    (
+        "tunnel = \"vxlan\"\nvni = 42\nremotes = [\"10.8.0.7\"]",
+        "none",
+    ),
+    (
+        "tunnel = \"vxlan\"\nvni = 42\nremotes = [\"0.0.0.0\"]",
+        REMOTES,
+    ),
+    (
+        "tunnel = \"vxlan\"\nvni = 42\nremotes = [\"10.8.0.7:0\"]",
+        REMOTES,
+    ),
+    (
+        "tunnel = \"vxlan\"\nvni = 42\nremotes = [\"10.8.0.1\"]",
+        REMOTES,
+    ),
     (
         "tunnel = \"vxlan\"\nvni = 42\nremotes = [\"10.8.0.1:4790\"]",
         "none",
@@ -324,10 +351,7 @@ const LINES: [(&str, &str); 40] = [
         "tunnel = \"l2tpv3\"\nsession = 1\nremotes = [\"friend.example\"]",
         REMOTES,
     ),
-    (
-        "tunnel = \"vxlan\"\nvni = 42\nremotes = []",
-        REMOTES,
-    ),
+    ("tunnel = \"vxlan\"\nvni = 42\nremotes = []", REMOTES),
 ];
 
 #[test]
@@ -351,7 +375,10 @@ const ANY: [(&str, &str); 9] = [
     ),
     ("udp_port = 24002\nremotes = [\"any\"]", REMOTES),
     ("tunnel = \"vxlan\"\nvni = 42\nremotes = [\"any\"]", REMOTES),
-    ("tunnel = \"l2tpv3\"\nsession = 1\nremotes = [\"any\"]", REMOTES),
+    (
+        "tunnel = \"l2tpv3\"\nsession = 1\nremotes = [\"any\"]",
+        REMOTES,
+    ),
     (
         "tunnel = \"l2tpv3\"\nsession = 1\ncookie = \"01234567\"\npeer_cookie = \"0123456789abcdef\"\nremotes = [\"any\"]",
         REMOTES,
@@ -388,9 +415,9 @@ fn text_of_a_learned_remote(rt: HostRuntime) -> Result<(), AllocError> {
     let Some(site) = site(rt.alloc(), text.as_str()) else {
         panic!(rt; "the file has a fault");
     };
-    assert!(rt; ethernet(&site, 0).is_some_and(|port| {
-        matches!(port.remotes, RemotesConfig::Learned)
-    }));
+    assert!(rt;
+        ethernet(&site, 0).is_some_and(|port| { matches!(port.remotes, RemotesConfig::Learned) })
+    );
     let texts = ports_to_texts(rt.alloc(), &site.ports)?;
     assert_eq!(rt;
         texts[0].as_str(),
