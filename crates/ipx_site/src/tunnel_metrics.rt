@@ -98,13 +98,21 @@ fn put_ports(text: &mut String, ports: &[TunnelPortMetrics]) -> Result<(), Alloc
     Ok(())
 }
 
+/// The same; nothing if there is no port.
+fn put_any(text: &mut String, ports: &[TunnelPortMetrics]) -> Result<(), AllocError>
+    ensures { OnOk result (string_bytes text.new
+        ≡ string_bytes text.old ++ families_text (tunnel_families ports.now)) }
+{
+    if ports.is_empty() {
+        return Ok(());
+    }
+    put_ports(text, ports)
+}
+
 /// Writes what was dropped at each port that has a tunnel; nothing if no port has one.
 pub fn put_tunnel_metrics(text: &mut String, metrics: &TunnelMetrics) -> Result<(), AllocError>
     ensures { OnOk result (string_bytes text.new
         ≡ string_bytes text.old ++ families_text (tunnel_families metrics.now.ports.items)) }
 {
-    if metrics.ports.is_empty() {
-        return Ok(());
-    }
-    put_ports(text, &metrics.ports)
+    put_any(text, &metrics.ports)
 }
