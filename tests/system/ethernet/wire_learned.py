@@ -3,6 +3,7 @@ as its UDP port changes; datagrams with another cookie do not move it."""
 import random
 import socket
 import struct
+import time
 
 from site_packets import ipx
 from site_world import free_port, leave_out, node, until
@@ -52,18 +53,24 @@ class Learned:
 
         return until(is_there, SECONDS)
 
-    def forged(self):
-        """Datagrams of the session with another cookie, from another place."""
+    def forged(self, card):
+        """Datagrams of the session with another cookie, from another place, and after each a packet of the host to the guest. It
+        answers what comes to that place. A frame of the guest shows the router where it is again, so it tries five times."""
         header = b"\0\x03\0\0" + struct.pack(">I", SESSION) + bytes.fromhex("a1a2a3a4a5a6a7a9")
+        packet = ipx(0, (NETWORK, card.station, "4002"), (OUTER, self.host.station, "4001"), b"for the guest")
         with socket.socket(socket.AF_INET, socket.SOCK_DGRAM) as other:
             other.bind((ROUTER, 0))
-            other.settimeout(0.5)
+            other.settimeout(0.2)
             for _ in range(5):
                 other.sendto(header + bytes(60), self.port.place)
-            try:
-                return other.recv(2048)
-            except TimeoutError:
-                return None
+                # The router has read it by then.
+                time.sleep(0.1)
+                self.host.packet(packet)
+                try:
+                    return other.recv(2048)
+                except TimeoutError:
+                    pass
+        return None
 
 
 def check_learned(wires):
@@ -84,7 +91,7 @@ def check_learned(wires):
         first.process.end()
     else:
         wires.check("a guest of QEMU is found by its session and cookie", it.reaches(first), str(first.process.said()[:1]))
-        answer = it.forged()
+        answer = it.forged(first)
         found = it.router.figures(lambda found: found.get(dropped(2, "other_cookie")) == 5)
         wires.check("who has another cookie is counted and gets nothing, and the guest is reached as before",
                     answer is None and found.get(dropped(2, "other_cookie")) == 5 and it.reaches(first), str(answer))
