@@ -59,8 +59,9 @@ def check_notices(wires):
                 str(lines() or "") or str(counted.get('ipx_frames_total{port="2",outcome="handed_on"}')))
     for send, before, after in told:
         send()
-        found = until(lambda before=before, after=after: any(before in line and line.endswith(after) for line in lines()), 15)
-        wires.check(f"a line: port 2: {before}1{after}", found, "" if found else str(lines()))
+        line = f"port 2: {before}1{after}"
+        found = until(lambda line=line: any(one.endswith(line) for one in lines()), 15)
+        wires.check(f"a line: {line}", found, "" if found else str(lines()))
     # Each in its turn, so that the station is heard at both remotes within a second.
     for send in moves:
         send()
