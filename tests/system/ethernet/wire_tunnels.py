@@ -1,6 +1,6 @@
-"""Ports by VXLAN and L2TPv3, for `wires`: the kernel's VXLAN devices in another network behind a veth, and cards of QEMU
-with `-netdev l2tpv3`. What comes out there is compared with a router's frames byte by byte, and what is no frame of a
-tunnel is counted by its reason."""
+"""Ports by VXLAN and L2TPv3, for `wires`: VXLAN devices of the kernel, in another network at the other end of a veth, and
+cards of QEMU with `-netdev l2tpv3`. What comes out there is compared with a router's frames byte by byte, and what is no
+frame of a tunnel is counted by its reason."""
 import contextlib
 import os
 import random
